@@ -1,0 +1,4 @@
+pub mod Cond
+pub mod Sign
+pub mod Table
+pub mod Bytes

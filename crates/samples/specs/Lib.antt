@@ -1,0 +1,4 @@
+pub mod Sign
+pub mod Bytes
+pub mod Table
+pub mod Lent
