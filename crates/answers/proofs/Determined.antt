@@ -7,7 +7,8 @@ use denote.Triple.Clauses.{AtExit}
 use borrow.Fn.Kinds.{PK, RK, Out, Dens, resT, endedOf}
 
 -- `Post` is the contract's own clauses; `left` is what is looked at when the call has ended: its output
-abbrev pub Determined : (n : ℕ) (ps : List (PK n)) (r : RK n) → Out n ps r → {B : Type 0} → ((κs : Lfts n) → AtExit (endedOf n ps r) κs → B) → Type 0
+abbrev pub Determined : (n : ℕ) (ps : List (PK n)) (r : RK n) → Out n ps r → {B : Type 0}
+    → ((κs : Lfts n) → AtExit (endedOf n ps r) κs → B) → Type 0
 Determined n ps r Post left =
     (κs : Lfts n) (a : Dens κs ps) (z z′ : resT r κs .Denot) (e e′ : AtExit (endedOf n ps r) κs)
     → Post κs a z e → Post κs a z′ e′ → (z ≡ z′) × (left κs e ≡ left κs e′)

@@ -22,7 +22,8 @@ length-samples (lo ∷ (hi ∷ bs)) =
     let e = length-samples bs in
     omega arith
 
-pub sample-at : (l : List ℕ) (i : ℕ) → 2 * i + 1 < length l → getD (samples l) i (pos 0) ≡ sampleOf (getD l (2 * i) 0) (getD l (2 * i + 1) 0)
+pub sample-at : (l : List ℕ) (i : ℕ) → 2 * i + 1 < length l
+    → getD (samples l) i (pos 0) ≡ sampleOf (getD l (2 * i) 0) (getD l (2 * i + 1) 0)
 sample-at [] i h = absurd (not-suc-le-zero h)
 sample-at (lo ∷ []) i h = absurd (omega arith)
 sample-at (lo ∷ (hi ∷ bs)) zero h = refl

@@ -2,3 +2,4 @@ pub mod Cond
 pub mod Sign
 pub mod Table
 pub mod Bytes
+pub mod Determined

@@ -1,7 +1,6 @@
 -- `calls::rozimaha_pcmu_decode` meets its contract.
-use mathlib.Core.Path.{ap}
 use borrow.Author.Needs.{needs}
-use Rattle.answers.specs.declared.Answer.{Answer}
+use Rattle.answers.proofs.Answered.{number-of}
 use Rattle.calls.proofs.rozimaha_pcmu_decode.Statement.{statement}
 use Rattle.calls.proofs.rozimaha_pcmu_decode.Tie as tie
 
@@ -12,4 +11,4 @@ rozimaha-pcmu-decode-spec =
     (λ c κs. tt)
     (λ c. search needs)
     (λ c. search needs)
-    (λ c. (ap (λ (a : Answer). a .number) (c .before .before .before .decode-to-bytes .ensures .0), c .before .before .before .decode-to-bytes .ensures .1)))
+    (λ c. let e = c .before .before .before .decode-to-bytes .ensures in (number-of (e .0), e .1)))

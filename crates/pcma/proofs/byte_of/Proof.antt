@@ -38,7 +38,8 @@ by-sign (negsuc v) = refl
 folded : (c : tie.After-fold) → c .fold .result ≡ foldOf (shrZ (c .before .before .args .s) 8)
 folded c =
     let e = c .before .eighth in
-    c .fold .ensures ∙ ap foldOf (toZ-ofZ {w = w16} (record { sfits = e .ok }) ∙ e .ensures ∙ ap (λ z. shrZ z 8) (toZ-ofZ (c .before .before .fits .s)))
+    c .fold .ensures
+    ∙ ap foldOf (toZ-ofZ {w = w16} (record { sfits = e .ok }) ∙ e .ensures ∙ ap (λ z. shrZ z 8) (toZ-ofZ (c .before .before .fits .s)))
 
 seg-le : (c : tie.After-segment) → c .segment .result ≤ 8
 unfolding ends

@@ -33,7 +33,8 @@ loop-again c =
     turn (head .loop .inv) (c .before .before .before .loop-test .taken)
     (c .bits .ensures
     ∙ ap bitsOf (toZ-ofZ {w = w16} (record { sfits = c .before .bits-arg .given })
-    ∙ entry aValue (pos 0) 256 (head .before .decoding-table .ensures) b (omega (arith, c .before .before .shared-slice-known2 .given (head .loop .i)))))
+    ∙ entry aValue (pos 0) 256 (head .before .decoding-table .ensures) b
+    (omega (arith, c .before .before .shared-slice-known2 .given (head .loop .i)))))
 
 returns-2 : tie.Need-returns-2 Inv-loop μ-loop
 returns-2 c =

@@ -31,7 +31,8 @@ loop-again c =
 returns-2 : tie.Need-returns-2 Inv-loop μ-loop
 returns-2 c =
     let a = c .before .before .before .before .args in
-    mapped aByte (a .input .now) (a .out .now) (c .before .before .if1 .left) (last-turn (c .before .loop .inv) (c .loop-test .left))
+    mapped aByte (a .input .now) (a .out .now) (c .before .before .if1 .left)
+    (last-turn (c .before .loop .inv) (c .loop-test .left))
 
 pub encode-spec : {M : Type 1} → statement M
 encode-spec =

@@ -37,13 +37,15 @@ loop-again c =
     let n = length-samples input in
     turn (pos 0) (head .loop .inv) (omega (arith, c .before .before .before .before .loop-test .taken))
     (c .byte-of .ensures
-    ∙ ap aByte (toZ-ofZ {w = w16} (record { sfits = c .before .sample .ok }) ∙ c .before .sample .ensures ∙ sym (sample-at input i (omega arith))))
+    ∙ ap aByte (toZ-ofZ {w = w16} (record { sfits = c .before .sample .ok })
+    ∙ c .before .sample .ensures ∙ sym (sample-at input i (omega arith))))
 
 returns-3 : tie.Need-returns-3 Inv-loop μ-loop
 returns-3 c =
     let a = c .before .before .before .before .before .before .args in
     let n = length-samples (a .input .now) in
-    from-done aByte (a .input .now) (a .out .now) (search needs) (search needs) (last-turn (c .before .loop .inv) (omega (arith, c .loop-test .left)))
+    from-done aByte (a .input .now) (a .out .now) (search needs) (search needs)
+    (last-turn (c .before .loop .inv) (omega (arith, c .loop-test .left)))
 
 pub encode-from-bytes-spec : {M : Type 1} → statement M
 encode-from-bytes-spec =

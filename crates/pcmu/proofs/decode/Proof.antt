@@ -32,12 +32,14 @@ loop-again c =
     let b = getD (head .before .before .before .before .args .payload .now) (head .loop .i) 0 in
     turn 0 (head .loop .inv) (c .before .before .loop-test .taken)
     (toZ-ofZ {w = w16} (record { sfits = c .out .given })
-    ∙ entry muValue (pos 0) 256 (head .before .decoding-table .ensures) b (omega (arith, c .before .shared-slice-known2 .given (head .loop .i))))
+    ∙ entry muValue (pos 0) 256 (head .before .decoding-table .ensures) b
+    (omega (arith, c .before .shared-slice-known2 .given (head .loop .i))))
 
 returns-2 : tie.Need-returns-2 Inv-loop μ-loop
 returns-2 c =
     let a = c .before .before .before .before .before .args in
-    mapped muValue (a .payload .now) (a .out .now) (c .before .before .before .if1 .left) (last-turn (c .before .loop .inv) (c .loop-test .left))
+    mapped muValue (a .payload .now) (a .out .now) (c .before .before .before .if1 .left)
+    (last-turn (c .before .loop .inv) (c .loop-test .left))
 
 pub decode-spec : {M : Type 1} → statement M
 decode-spec =

@@ -1,5 +1,4 @@
 -- `pcmu::sign_bit` meets its contract.
-use mathlib.Core.Path.{_≡_}
 use mir.Facts.{toZ-ofZ}
 use Rattle.samples.proofs.Sign.{below, above}
 use Rattle.pcmu.proofs.sign_bit.Statement.{statement}
