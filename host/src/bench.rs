@@ -1,12 +1,18 @@
 // Both sides in one run: the proved calls and the original, turn about, the median of each.
+use crate::inside::g722::G722Processor;
 use crate::laws::bytes_of;
+use crate::marks;
 use crate::original::codec::{pcma::PcmaProcessor, pcmu::PcmuProcessor, CodecProcessor};
-use crate::proved::{self, Call};
+use crate::proved::{self, Call, Coder};
+use crate::sessions::MARK_ROOM;
 use std::hint::black_box;
 use std::time::Instant;
 
 const TURNS: usize = 9;
 const LAW_ITEMS: usize = 1 << 20;
+const G722_BYTES: usize = 64 << 20;
+const G722_TURNS: usize = 5;
+const G722_CALL: usize = 4096;
 
 fn seconds(work: &mut dyn FnMut()) -> f64 {
     let start = Instant::now();
@@ -25,9 +31,9 @@ fn median(mut times: Vec<f64>) -> f64 {
 }
 
 // The medians of both, alternating so that a slow moment of the machine meets both.
-fn both(original: &mut dyn FnMut(), ours: &mut dyn FnMut()) -> (f64, f64) {
+fn both(turns: usize, original: &mut dyn FnMut(), ours: &mut dyn FnMut()) -> (f64, f64) {
     let mut times = (Vec::new(), Vec::new());
-    for _ in 0..TURNS {
+    for _ in 0..turns {
         times.0.push(seconds(original));
         times.1.push(seconds(ours));
     }
@@ -44,6 +50,59 @@ fn row(name: &str, items: usize, (original, ours): (f64, f64)) {
     );
 }
 
+// The length of a mark line.
+fn length_of(mark: &[u8]) -> usize {
+    1 + mark.iter().position(|&byte| byte == b'\n').expect("a mark line ends with a newline")
+}
+
+// All the input through calls of G722_CALL items, each from the mark that the one before it left.
+fn through_marks(call: Coder, fresh: &[u8], input: &[u8], width: usize, out: &mut [u8]) {
+    let mut mark = [0u8; MARK_ROOM];
+    let mut new_mark = [0u8; MARK_ROOM];
+    mark[..fresh.len()].copy_from_slice(fresh);
+    for part in input.chunks(G722_CALL * width) {
+        let number = call(&mark[..length_of(&mark)], part, out, &mut new_mark);
+        assert_eq!(number, 0);
+        std::mem::swap(&mut mark, &mut new_mark);
+    }
+    black_box(out);
+}
+
+fn g722_at(rate: u32) {
+    let bytes: Vec<u8> = (0..G722_BYTES as u32).map(|i| (i.wrapping_mul(2654435761) >> 24) as u8).collect();
+    let samples: Vec<i16> = (0..G722_BYTES as u32).map(|i| (i.wrapping_mul(2654435761) >> 17) as i16).collect();
+    let raw = bytes_of(&samples);
+    let mut out = vec![0u8; 4 * G722_CALL];
+    let fresh = |kind| marks::line(kind, 0, rate, 0, &[0; marks::NUMBERS]);
+    let times = both(
+        G722_TURNS,
+        &mut || {
+            let mut original = G722Processor::from_start(rate, 0);
+            bytes.chunks(G722_CALL).for_each(|part| discard(original.decode(part)));
+        },
+        &mut || through_marks(proved::g722_decode, &fresh(b'D'), &bytes, 1, &mut out),
+    );
+    row(&format!("G.722 decode at {rate}"), G722_BYTES, times);
+    let times = both(
+        G722_TURNS,
+        &mut || {
+            let mut original = G722Processor::from_start(rate, 0);
+            samples.chunks(G722_CALL).for_each(|part| discard(original.encode(part)));
+        },
+        &mut || through_marks(proved::g722_encode, &fresh(b'E'), &raw, 2, &mut out),
+    );
+    row(&format!("G.722 encode at {rate}"), G722_BYTES, times);
+}
+
+pub fn g722() {
+    println!("\nG.722: {G722_BYTES} items by a fixed rule (the top bits of i * 2654435761) in calls of {G722_CALL}, {G722_TURNS} turns, alternating, medians.");
+    println!("Each of our calls reads a mark and writes one. Our output buffer is not cleared between calls; the original makes a new vector.\n");
+    println!("| call | original, ns an item | ours, ns an item | ours / original |");
+    println!("|---|---|---|---|");
+    g722_at(16000);
+    g722_at(8000);
+}
+
 fn law(name: &str, encode: Call, decode: Call, original: &mut dyn CodecProcessor) {
     let samples: Vec<i16> = (0..LAW_ITEMS as u32).map(|i| (i.wrapping_mul(2654435761) >> 16) as i16).collect();
     let raw = bytes_of(&samples);
@@ -51,11 +110,13 @@ fn law(name: &str, encode: Call, decode: Call, original: &mut dyn CodecProcessor
     let mut out = vec![0u8; raw.len()];
     for call in [160, 4096] {
         let times = both(
+            TURNS,
             &mut || samples.chunks(call).for_each(|part| discard(original.encode(part))),
             &mut || raw.chunks(2 * call).for_each(|part| discard(encode(part, &mut out))),
         );
         row(&format!("{name} encode, {call} samples a call"), LAW_ITEMS, times);
         let times = both(
+            TURNS,
             &mut || coded.chunks(call).for_each(|part| discard(original.decode(part))),
             &mut || coded.chunks(call).for_each(|part| discard(decode(part, &mut out))),
         );

@@ -1,4 +1,5 @@
-// Runs the proved calls beside the original Rust: `compare` looks for differences, `bench` measures both.
+// Runs the proved calls beside the original Rust: `compare` looks for differences, `bench` measures both, `record` writes the
+// original's answers down for the program `replay`.
 mod noise;
 mod original;
 mod proved;
@@ -6,11 +7,21 @@ mod proved;
 #[cfg(original)]
 mod bench;
 #[cfg(original)]
+mod inside;
+#[cfg(original)]
 mod laws;
+#[cfg(original)]
+mod marks;
+#[cfg(original)]
+mod record;
+#[cfg(original)]
+mod sessions;
+#[cfg(original)]
+mod signals;
 
 use std::process::ExitCode;
 
-const USAGE: &str = "usage: rozimaha-host compare | bench";
+const USAGE: &str = "usage: rozimaha-host compare | bench | record";
 
 fn main() -> ExitCode {
     let words: Vec<String> = std::env::args().skip(1).collect();
@@ -18,6 +29,7 @@ fn main() -> ExitCode {
     match words[..] {
         ["compare"] => told(compare()),
         ["bench"] => told(bench()),
+        ["record"] => told(record()),
         _ => {
             eprintln!("{USAGE}");
             ExitCode::from(2)
@@ -37,23 +49,29 @@ fn told(outcome: Result<(), String>) -> ExitCode {
 
 #[cfg(original)]
 fn compare() -> Result<(), String> {
-    let calls = laws::compare()?;
-    println!("compared: {calls}");
+    let laws = laws::compare()?;
+    let sessions = sessions::compare()?;
+    println!("compared: {}", laws + sessions.calls);
     Ok(())
 }
 
 #[cfg(original)]
 fn bench() -> Result<(), String> {
     bench::laws();
+    bench::g722();
+    Ok(())
+}
+
+#[cfg(original)]
+fn record() -> Result<(), String> {
+    record::record();
     Ok(())
 }
 
 #[cfg(not(original))]
-fn compare() -> Result<(), String> {
+fn missing() -> Result<(), String> {
     Err("NOT COMPARED: this host was built without the original Rust; set ROZIMAHA_SOURCE to its folder".to_string())
 }
 
 #[cfg(not(original))]
-fn bench() -> Result<(), String> {
-    Err("NOT MEASURED: this host was built without the original Rust; set ROZIMAHA_SOURCE to its folder".to_string())
-}
+use self::{missing as bench, missing as compare, missing as record};

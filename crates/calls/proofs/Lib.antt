@@ -1,1 +1,3 @@
+pub mod Begun
+pub mod Coded
 pub mod Determined

@@ -12,7 +12,7 @@ struct Ran {
 }
 
 // Runs every line of the text that has its newline.
-fn run_lines(text: &[u8], before: Tally) -> Ran
+fn run_lines(text: &[u8], mark: &mut [u8], before: Tally) -> Ran
     ensures { λ r. ⌜ r .to ≤ length (now (text .entry)) ⌝ }
 {
     let mut tally = before;
@@ -22,7 +22,7 @@ fn run_lines(text: &[u8], before: Tally) -> Ran
         if end == text.len() {
             return Ran { to: at, tally };
         }
-        tally = case::run_line(&text[at..end], tally);
+        tally = case::run_line(&text[at..end], mark, tally);
         at = end + 1;
     }
     Ran { to: at, tally }
@@ -50,14 +50,14 @@ struct Piece {
 }
 
 // Reads once behind the `held` bytes that wait, and runs what is whole. At the end a last line needs no newline.
-fn run_piece(file: i32, text: &mut [u8], held: usize, before: Tally) -> Piece
+fn run_piece(file: i32, text: &mut [u8], held: usize, mark: &mut [u8], before: Tally) -> Piece
     requires { ⌜ held ≤ length (now text) ⌝ }
     ensures { λ r. ⌜ r .held ≤ length (now (text .exit)) ⌝ }
 {
     let got = libc::read(file, &mut text[held..]);
     let n = io::count(got, &text[held..]);
     if n == 0 {
-        let tally = case::run_line(&text[0..held], before);
+        let tally = case::run_line(&text[0..held], mark, before);
         return Piece {
             held: 0,
             more: false,
@@ -65,7 +65,7 @@ fn run_piece(file: i32, text: &mut [u8], held: usize, before: Tally) -> Piece
         };
     }
     let end = held + n;
-    let ran = run_lines(&text[0..end], before);
+    let ran = run_lines(&text[0..end], mark, before);
     let to = ran.to;
     let tally = ran.tally;
     Piece {
@@ -76,12 +76,12 @@ fn run_piece(file: i32, text: &mut [u8], held: usize, before: Tally) -> Piece
 }
 
 // A loop that is proved has to end, so it counts down from a number that no list uses up.
-pub fn run(file: i32, text: &mut [u8], before: Tally) -> Tally {
+pub fn run(file: i32, text: &mut [u8], mark: &mut [u8], before: Tally) -> Tally {
     let mut tally = before;
     let mut held = 0;
     let mut pieces = u64::MAX;
     while pieces > 0 {
-        let piece = run_piece(file, text, held, tally);
+        let piece = run_piece(file, text, held, mark, tally);
         tally = piece.tally;
         if !piece.more {
             return tally;

@@ -21,7 +21,8 @@ fn run_file(path: &[u8], before: Tally) -> Tally {
         return before;
     }
     let mut text = io::large_buffer();
-    let after = list::run(file, &mut text, before);
+    let mut mark = [0u8; 512];
+    let after = list::run(file, &mut text, &mut mark, before);
     libc::close(file);
     after
 }
@@ -31,6 +32,7 @@ fn main() {
         cases: 0,
         wrong: 0,
         digest: 0,
+        held: 0,
     };
     let mut i = 1;
     while i < os::arg_count() {

@@ -75,7 +75,9 @@ pub fn bytes(word: &[u8], out: &mut [u8]) -> usize
 }
 
 // The number that a word's decimal digits say, below a million.
-pub fn number(word: &[u8]) -> usize {
+pub fn number(word: &[u8]) -> usize
+    ensures { λ r. ⌜ r < 1000000 ⌝ }
+{
     let mut value: usize = 0;
     let mut i = 0;
     while i < word.len() {
@@ -83,4 +85,18 @@ pub fn number(word: &[u8]) -> usize {
         i += 1;
     }
     value
+}
+
+pub fn number32(word: &[u8]) -> u32 {
+    number(word) as u32
+}
+
+// Copies as much of `from` as `to` holds.
+pub fn copy(from: &[u8], to: &mut [u8]) {
+    let n = least(from.len(), to.len());
+    let mut i = 0;
+    while i < n {
+        to[i] = from[i];
+        i += 1;
+    }
 }

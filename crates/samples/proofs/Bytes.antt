@@ -33,19 +33,19 @@ sample-at (lo ∷ (hi ∷ bs)) (suc i) h =
     rw (o, e) (sample-at bs i (omega arith))
 
 -- the bytes of f of each item of xs, two stores a turn, after i turns
-pub record Pairing (f : ℕ → ℤ) (xs start out : List ℕ) (i : ℕ) : Type 0 where
+pub record Pairing {A : Type 0} (f : A → ℤ) (xs : List A) (start out : List ℕ) (i : ℕ) : Type 0 where
   pub filling : Filling (bytes (map f xs)) start (bytes (map f (drop i xs))) out (2 * i)
 
-module _ {f : ℕ → ℤ} {xs start : List ℕ} where
+module _ {A : Type 0} {f : A → ℤ} {xs : List A} {start : List ℕ} where
   pub no-turn : Pairing f xs start start 0
   no-turn = record { filling = starts }
 
   module _ {out : List ℕ} {i : ℕ} where
-    pub turn : Pairing f xs start out i → i < length xs → {b : ℕ} → b ≡ bitsOf (f (getD xs i 0))
+    pub turn : (d : A) → Pairing f xs start out i → i < length xs → {b : ℕ} → b ≡ bitsOf (f (getD xs i d))
         → Pairing f xs start (set (set out (2 * i) (b % 256)) (2 * i + 1) (b / 256)) (i + 1)
-    turn p h e =
+    turn d p h e =
         let two : 2 * suc i ≡ suc (suc (2 * i)) = omega arith in
-        record { filling = rw (e, add-one i, add-one (2 * i), two) (put (put (rw (drop-cons xs i 0 h) at (p .filling)))) }
+        record { filling = rw (e, add-one i, add-one (2 * i), two) (put (put (rw (drop-cons xs i d h) at (p .filling)))) }
 
     pub last-turn : Pairing f xs start out i → length xs ≤ i → out ≡ sets start 0 (bytes (map f xs))
     last-turn p h = ends (p .filling) (rw (drop-of-length-le xs h))

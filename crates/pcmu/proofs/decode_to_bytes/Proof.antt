@@ -30,7 +30,7 @@ unfolding muValues
 loop-again c =
     let head = c .before .before .before .before in
     let b = getD (head .before .before .before .before .before .args .payload .now) (head .loop .i) 0 in
-    turn (head .loop .inv) (c .before .before .before .loop-test .taken)
+    turn 0 (head .loop .inv) (c .before .before .before .loop-test .taken)
     (c .bits .ensures
     ∙ ap bitsOf (toZ-ofZ {w = w16} (record { sfits = c .before .bits-arg .given })
     ∙ entry muValue (pos 0) 256 (head .before .decoding-table .ensures) b

@@ -22,29 +22,35 @@ least-requires c κs = search needs
 clear-requires : tie.Need-clear-requires
 clear-requires c κs = search needs
 
+clear-requires-2 : tie.Need-clear-requires-2
+clear-requires-2 c κs = search needs
+
 word-requires-3 : tie.Need-word-requires-3
 word-requires-3 c κs = search needs
 
-slice-reshare-prefix-call : tie.Need-slice-reshare-prefix-call
-slice-reshare-prefix-call c = search needs
+slice-reshare-prefix-call-coder : tie.Need-slice-reshare-prefix-call-coder
+slice-reshare-prefix-call-coder c = search needs
 
-slice-aggregate-call : tie.Need-slice-aggregate-call
-slice-aggregate-call c = simp length-take (omega arith)
+slice-aggregate-call-coder : tie.Need-slice-aggregate-call-coder
+slice-aggregate-call-coder c = simp length-take (omega arith)
 
-slice-relend-prefix-call : tie.Need-slice-relend-prefix-call
-slice-relend-prefix-call c = search needs
+slice-relend-prefix-call-coder : tie.Need-slice-relend-prefix-call-coder
+slice-relend-prefix-call-coder c = search needs
 
-slice-aggregate-call-2 : tie.Need-slice-aggregate-call-2
-slice-aggregate-call-2 c = simp length-take (omega arith)
+slice-aggregate-call-coder-2 : tie.Need-slice-aggregate-call-coder-2
+slice-aggregate-call-coder-2 c = simp length-take (omega arith)
 
-call-requires : tie.Need-call-requires
-call-requires c κs = search needs
+call-coder-requires : tie.Need-call-coder-requires
+call-coder-requires c κs = search needs
 
 same-length : tie.Need-same-length
 same-length c = search needs
 
 same-length-2 : tie.Need-same-length-2
 same-length-2 c = search needs
+
+same-length-3 : tie.Need-same-length-3
+same-length-3 c = search needs
 
 returns : tie.Need-returns
 returns c = search needs
@@ -59,12 +65,14 @@ answered-spec =
     number-requires
     least-requires
     clear-requires
+    clear-requires-2
     word-requires-3
-    slice-reshare-prefix-call
-    slice-aggregate-call
-    slice-relend-prefix-call
-    slice-aggregate-call-2
-    call-requires
+    slice-reshare-prefix-call-coder
+    slice-aggregate-call-coder
+    slice-relend-prefix-call-coder
+    slice-aggregate-call-coder-2
+    call-coder-requires
     same-length
     same-length-2
+    same-length-3
     returns)

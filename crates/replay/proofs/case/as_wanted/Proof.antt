@@ -4,9 +4,6 @@ use borrow.Author.Needs.{needs}
 use Rattle.replay.proofs.case.as_wanted.Statement.{statement}
 use Rattle.replay.proofs.case.as_wanted.Tie as tie
 
-word-requires : tie.Need-word-requires
-word-requires c κs = search needs
-
 bytes-requires : tie.Need-bytes-requires
 bytes-requires c κs = search needs
 
@@ -24,12 +21,6 @@ slice-aggregate-same-2 c = simp length-take (omega arith)
 
 same-requires : tie.Need-same-requires
 same-requires c κs = search needs
-
-word-requires-2 : tie.Need-word-requires-2
-word-requires-2 c κs = search needs
-
-number-requires : tie.Need-number-requires
-number-requires c κs = search needs
 
 sub-untouched : tie.Need-sub-untouched
 sub-untouched c = search needs
@@ -53,15 +44,12 @@ pub as-wanted-spec : {M : Type 1} → statement M
 as-wanted-spec =
     tie.close
     (tie.spec
-    word-requires
     bytes-requires
     least-requires
     slice-aggregate-same
     slice-reshare-prefix-same
     slice-aggregate-same-2
     same-requires
-    word-requires-2
-    number-requires
     sub-untouched
     part-untouched-start
     part-untouched-end

@@ -6,10 +6,10 @@ use Rattle.replay.proofs.list.run.Statement.{statement}
 use Rattle.replay.proofs.list.run.Tie as tie
 
 abbrev Inv-loop : tie.InvT-loop
-Inv-loop file text₀ tally₀ held₀ pieces₀ text tally held pieces = (held ≤ length text) × (length text ≡ length text₀)
+Inv-loop file text₀ mark₀ tally₀ held₀ pieces₀ text mark tally held pieces = (held ≤ length text) × (length text ≡ length text₀) × (length mark ≡ length mark₀)
 
 abbrev μ-loop : tie.MeasureT-loop
-μ-loop file text₀ tally₀ held₀ pieces₀ text tally held pieces = pieces
+μ-loop file text₀ mark₀ tally₀ held₀ pieces₀ text mark tally held pieces = pieces
 
 loop-holds : tie.Need-loop-holds Inv-loop μ-loop
 loop-holds c = search needs
@@ -19,6 +19,9 @@ run-piece-requires c κs = search needs
 
 same-length : tie.Need-same-length Inv-loop μ-loop
 same-length c = search needs
+
+same-length-2 : tie.Need-same-length-2 Inv-loop μ-loop
+same-length-2 c = search needs
 
 returns : tie.Need-returns Inv-loop μ-loop
 returns c = search needs
@@ -32,8 +35,11 @@ loop-less c = search needs
 loop-again : tie.Need-loop-again Inv-loop μ-loop
 loop-again c = search needs
 
-same-length-2 : tie.Need-same-length-2 Inv-loop μ-loop
-same-length-2 c = search needs
+same-length-3 : tie.Need-same-length-3 Inv-loop μ-loop
+same-length-3 c = search needs
+
+same-length-4 : tie.Need-same-length-4 Inv-loop μ-loop
+same-length-4 c = search needs
 
 returns-2 : tie.Need-returns-2 Inv-loop μ-loop
 returns-2 c = search needs
@@ -47,9 +53,11 @@ run-spec =
     loop-holds
     run-piece-requires
     same-length
+    same-length-2
     returns
     sub-pieces
     loop-less
     loop-again
-    same-length-2
+    same-length-3
+    same-length-4
     returns-2)

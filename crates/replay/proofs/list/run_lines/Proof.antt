@@ -1,20 +1,24 @@
 use borrow.Author.Needs.{needs}
 use Prim.Native.Nat.{_-_, _≤_}
 use lib.ListN.{length}
+use mathlib.Core.Path.{_≡_}
 use Rattle.replay.proofs.list.run_lines.Statement.{statement}
 use Rattle.replay.proofs.list.run_lines.Tie as tie
 
 abbrev Inv-loop : tie.InvT-loop
-Inv-loop text tally₀ at₀ tally at = at ≤ length text
+Inv-loop text mark₀ tally₀ at₀ mark tally at = (at ≤ length text) × (length mark ≡ length mark₀)
 
 abbrev μ-loop : tie.MeasureT-loop
-μ-loop text tally₀ at₀ tally at = length text - at
+μ-loop text mark₀ tally₀ at₀ mark tally at = length text - at
 
 loop-holds : tie.Need-loop-holds Inv-loop μ-loop
 loop-holds c = search needs
 
 place-of-requires : tie.Need-place-of-requires Inv-loop μ-loop
 place-of-requires c κs = search needs
+
+same-length : tie.Need-same-length Inv-loop μ-loop
+same-length c = search needs
 
 returns : tie.Need-returns Inv-loop μ-loop
 returns c = search needs
@@ -40,6 +44,9 @@ loop-less c = search needs
 loop-again : tie.Need-loop-again Inv-loop μ-loop
 loop-again c = search needs
 
+same-length-2 : tie.Need-same-length-2 Inv-loop μ-loop
+same-length-2 c = search needs
+
 returns-2 : tie.Need-returns-2 Inv-loop μ-loop
 returns-2 c = search needs
 
@@ -51,6 +58,7 @@ run-lines-spec =
     μ-loop
     loop-holds
     place-of-requires
+    same-length
     returns
     sub-run-line
     part-run-line-start
@@ -59,4 +67,5 @@ run-lines-spec =
     add-at
     loop-less
     loop-again
+    same-length-2
     returns-2)

@@ -1,0 +1,108 @@
+-- The Bool of a range, and of a list of numbers, beside what is known of each number.
+use Prim.Native.Nat.{ℕ, zero, suc, _<_, _^_}
+use native.Mathlib.Omega.{arith}
+use mathlib.Core.Bool.{Bool, true, false, _&&_, false≢true}
+use mathlib.Core.List.{List, [], _∷_, _++_, map, map-id, zipWith}
+use denote.Array.{each}
+use denote.Shadow.{shadow}
+use denote.Signed.{SInt}
+use mathlib.Core.Path.{_≡_, refl, sym, ap, _∙_, subst}
+use lib.Dec.{T}
+use lib.IntN.{ℤ, pos, negsuc}
+use lib.ListN.{getD, drop, take}
+use lib.Signed.{mag, leZ, _≤ℤ_}
+use mir.Syntax.{w16}
+use mir.Val.{Val, SFits}
+use Rattle.fixed.specs.Number.{In, In16}
+use Rattle.fixed.proofs.Wide.{in16-of}
+use Rattle.band.specs.declared.Band.{Band}
+use Rattle.band.specs.Bounds.{between, allBetween, allWords, bandNumbers}
+
+truth : (b : Bool) → T b → b ≡ true
+truth true t = refl
+truth false t = absurd t
+
+pub both : {a b : Bool} → a ≡ true → b ≡ true → (a && b) ≡ true
+both {a} {b} e f = ap (λ (t : Bool). t && b) e ∙ f
+
+pub left : (a b : Bool) → (a && b) ≡ true → a ≡ true
+left true b e = refl
+left false b e = e
+
+pub right : (a b : Bool) → (a && b) ≡ true → b ≡ true
+right true b e = e
+right false b e = absurd (false≢true e)
+
+-- ---- one number
+pub between-in : (lo hi z : ℤ) → In lo hi z → between lo hi z ≡ true
+between-in lo hi z i = both (truth (leZ lo z) (i .low .le)) (truth (leZ z hi) (i .high .le))
+
+pub in-between : (lo hi z : ℤ) → between lo hi z ≡ true → In lo hi z
+in-between lo hi z e = record { low = yes (leZ lo z) (left (leZ lo z) (leZ z hi) e); high = yes (leZ z hi) (right (leZ lo z) (leZ z hi) e) }
+  where
+    yes : {a b : ℤ} (t : Bool) → leZ a b ≡ true → a ≤ℤ b
+    yes t e = record { le = subst T (sym e) tt }
+
+-- ---- the numbers of a list
+pub no-words : allWords [] ≡ true
+unfolding allBetween
+no-words = refl
+
+pub more-words : (z : ℤ) (zs : List ℤ) → In16 z → allWords zs ≡ true → allWords (z ∷ zs) ≡ true
+unfolding allBetween
+more-words z zs i e = both (between-in (negsuc 32767) (pos 32767) z i) e
+
+pub head-word : (z : ℤ) (zs : List ℤ) → allWords (z ∷ zs) ≡ true → In16 z
+unfolding allBetween
+head-word z zs e = in-between (negsuc 32767) (pos 32767) z (left (between (negsuc 32767) (pos 32767) z) (allWords zs) e)
+
+pub tail-words : (z : ℤ) (zs : List ℤ) → allWords (z ∷ zs) ≡ true → allWords zs ≡ true
+unfolding allBetween
+tail-words z zs e = right (between (negsuc 32767) (pos 32767) z) (allWords zs) e
+
+pub word-at : (zs : List ℤ) → allWords zs ≡ true → (i : ℕ) → In16 (getD zs i (pos 0))
+word-at [] e i = record { low = record { le = tt }; high = record { le = tt } }
+word-at (z ∷ zs) e zero = head-word z zs e
+word-at (z ∷ zs) e (suc i) = word-at zs (tail-words z zs e) i
+
+pub words-drop : (n : ℕ) (zs : List ℤ) → allWords zs ≡ true → allWords (drop n zs) ≡ true
+words-drop zero zs e = e
+words-drop (suc n) [] e = e
+words-drop (suc n) (z ∷ zs) e = words-drop n zs (tail-words z zs e)
+
+pub words-take : (n : ℕ) (zs : List ℤ) → allWords zs ≡ true → allWords (take n zs) ≡ true
+words-take zero zs e = no-words
+words-take (suc n) [] e = e
+words-take (suc n) (z ∷ zs) e = more-words z (take n zs) (head-word z zs e) (words-take n zs (tail-words z zs e))
+
+pub words-zip : (f : ℤ → ℤ → ℤ) → ((a b : ℤ) → In16 (f a b)) → (xs ys : List ℤ) → allWords (zipWith f xs ys) ≡ true
+unfolding zipWith
+words-zip f g [] ys = no-words
+words-zip f g (x ∷ xs) [] = no-words
+words-zip f g (x ∷ xs) (y ∷ ys) = more-words (f x y) (zipWith f xs ys) (g x y) (words-zip f g xs ys)
+
+pub words-join : (xs ys : List ℤ) → allWords xs ≡ true → allWords ys ≡ true → allWords (xs ++ ys) ≡ true
+words-join [] ys e f = f
+words-join (z ∷ zs) ys e f = more-words z (zs ++ ys) (head-word z zs e) (words-join zs ys (tail-words z zs e) f)
+
+-- ---- what the relation of an array of `i16` says of its numbers, and of an array that is a field
+pub array-words : (xs : List ℤ) (us : List Val) → shadow (each ℤ (SInt w16 .own) xs us) → allWords xs ≡ true
+array-words [] us p = no-words
+array-words (x ∷ xs) [] p = absurd p
+array-words (x ∷ xs) (u ∷ us) p = more-words x xs (in16-of x (record { sfits = p .0 .1 })) (array-words xs us (p .1))
+
+pub field-words : (xs : List ℤ) (us : List Val) → shadow (each ℤ (SInt w16 .own) (map (λ (v : ℤ). v) xs) us) → allWords xs ≡ true
+field-words xs us p = array-words xs us (subst (λ (ys : List ℤ). shadow (each ℤ (SInt w16 .own) ys us)) (map-id xs) p)
+
+-- a band whose fields each fit
+pub band-words : (k : Band)
+    → mag (k .s) < 2 ^ 15 → mag (k .sp) < 2 ^ 15 → mag (k .sz) < 2 ^ 15 → mag (k .r1) < 2 ^ 15 → mag (k .r2) < 2 ^ 15 → mag (k .a1) < 2 ^ 15
+    → mag (k .a2) < 2 ^ 15 → mag (k .p1) < 2 ^ 15 → mag (k .p2) < 2 ^ 15 → mag (k .d1) < 2 ^ 15 → mag (k .d2) < 2 ^ 15 → mag (k .d3) < 2 ^ 15
+    → mag (k .d4) < 2 ^ 15 → mag (k .d5) < 2 ^ 15 → mag (k .d6) < 2 ^ 15 → mag (k .b1) < 2 ^ 15 → mag (k .b2) < 2 ^ 15 → mag (k .b3) < 2 ^ 15
+    → mag (k .b4) < 2 ^ 15 → mag (k .b5) < 2 ^ 15 → mag (k .b6) < 2 ^ 15 → mag (k .nb) < 2 ^ 15 → mag (k .det) < 2 ^ 15
+    → allWords (bandNumbers k) ≡ true
+band-words k hs hsp hsz hr1 hr2 ha1 ha2 hp1 hp2 hd1 hd2 hd3 hd4 hd5 hd6 hb1 hb2 hb3 hb4 hb5 hb6 hnb hdet =
+    word _ _ hs (word _ _ hsp (word _ _ hsz (word _ _ hr1 (word _ _ hr2 (word _ _ ha1 (word _ _ ha2 (word _ _ hp1 (word _ _ hp2 (word _ _ hd1 (word _ _ hd2 (word _ _ hd3 (word _ _ hd4 (word _ _ hd5 (word _ _ hd6 (word _ _ hb1 (word _ _ hb2 (word _ _ hb3 (word _ _ hb4 (word _ _ hb5 (word _ _ hb6 (word _ _ hnb (word _ _ hdet (no-words)))))))))))))))))))))))
+  where
+    word : (z : ℤ) (zs : List ℤ) → mag z < 2 ^ 15 → allWords zs ≡ true → allWords (z ∷ zs) ≡ true
+    word z zs h e = more-words z zs (in16-of z (record { sfits = h })) e

@@ -1,0 +1,6 @@
+pub mod Tables
+pub mod Bounds
+pub mod Fresh
+pub mod Quantise
+pub mod Block4
+pub mod Adapt

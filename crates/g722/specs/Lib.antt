@@ -1,0 +1,5 @@
+pub mod Rates
+pub mod Runs
+pub mod Session
+pub mod Encoding
+pub mod Decoding

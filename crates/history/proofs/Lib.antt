@@ -1,0 +1,11 @@
+pub mod Answered
+pub mod Decoding
+pub mod Encoding
+pub mod Histories
+pub mod Sessions
+pub mod Bands
+pub mod Computed
+pub mod Worked
+pub mod Weak
+pub mod Exist
+pub mod Contracts

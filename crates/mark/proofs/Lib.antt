@@ -1,0 +1,12 @@
+pub mod Numbers
+pub mod Inside
+pub mod Short
+pub mod Round
+pub mod Never
+pub mod Marks
+pub mod Examples
+pub mod Casts
+pub mod Copies
+pub mod Parts
+pub mod Either
+pub mod Determined

@@ -1,0 +1,5 @@
+pub mod Texts
+pub mod Pieces
+pub mod Whole
+pub mod Stops
+pub mod Determined

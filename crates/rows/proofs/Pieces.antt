@@ -1,0 +1,84 @@
+-- What listing a piece comes to, where its decoding refuses and where it is done.
+use mathlib.Core.Path.{_≡_, refl, sym, ap, _∙_}
+use mathlib.Core.Bool.{Bool, true, false, cond}
+use mathlib.Core.List.{List, _++_}
+use Prim.Native.Nat.{ℕ, _+_, _*_, _^_, _≤_}
+use native.Mathlib.Omega.{arith}
+use lib.Dec.{eqb}
+use lib.IntN.{ℤ}
+use lib.ListN.{length, take, drop, length-append, length-take}
+use lib.Seq.{sets, sets-eq, length-sets, length-take-le, take-append-le, take-append-seam}
+use borrow.Author.Tests.{eqb-true, eq-eqb, ne-eqb}
+use Rattle.answers.specs.Numbers.{done}
+use Rattle.g722.specs.declared.Decoder.{Decoder}
+use Rattle.g722.specs.declared.DecoderAnswer.{DecoderAnswer}
+use Rattle.g722.specs.Rates.{decodeRoom, decoderMoves}
+use Rattle.g722.specs.Decoding.{decoderReply, decoderAfter, decodedSamples, decodeNumber, decodeAnswer, decodeOut}
+use Rattle.g722.proofs.Numbers.{DecodeTaken, decode-taken, decode-done}
+use Rattle.g722.proofs.Cut.{decoded-length}
+use Rattle.rows.specs.Text.{rowsText, rowMost}
+use Rattle.rows.specs.Listing.{rowsFor, rowsOf, listNumber, listAnswer, listOut}
+
+-- a list stored at the front of a longer one stands there
+stored-front : (l m vs : List ℤ) → length vs ≤ length l → take (length vs) (sets l 0 vs ++ m) ≡ vs
+stored-front l m vs h =
+    take-append-le (length vs) (sets l 0 vs) m (omega (arith, length-sets l 0 vs))
+    ∙ ap (take (length vs)) (sets-eq vs l 0 (omega arith))
+    ∙ take-append-seam vs (drop (0 + length vs) l)
+
+module _ (s : Decoder) (bs : List ℕ) where
+  answer-number : (room : ℕ) → decodeAnswer s bs room .number ≡ decodeNumber s (length bs) room
+  unfolding decodeAnswer
+  answer-number room = go (decodeNumber s (length bs) room) (eqb (decodeNumber s (length bs) room) done) refl
+    where
+      go : (k : ℕ) (t : Bool) → eqb k done ≡ t → cond t (decoderReply done (decodeRoom (s .rate) (length bs)) (decoderAfter s bs)) (decoderReply k 0 s) .number ≡ k
+      go k true e = sym (eqb-true k done e)
+      go k false e = refl
+
+  pub list-refused : (out : List ℕ) (room : ℕ) (r : DecoderAnswer) → room ≡ rowsFor (length out) → r ≡ decodeAnswer s bs room → (r .number ≡ done → ⊥)
+      → (r ≡ listAnswer s bs (length out)) × ((out ≡ listOut s bs out) × (r .count ≤ length out))
+  unfolding decodeAnswer listAnswer listOut
+  list-refused out room r k e z =
+      let n : decodeNumber s (length bs) (rowsFor (length out)) ≡ done → ⊥ = λ d. z (ap (λ (x : DecoderAnswer). x .number) e ∙ answer-number room ∙ rw k d) in
+      let a : r ≡ decoderReply (decodeNumber s (length bs) (rowsFor (length out))) 0 s = rw (k, ne-eqb _ _ n) at e in
+      (rw (ne-eqb _ _ n) a, (rw (ne-eqb _ _ n), rw a (omega arith)))
+
+  -- decoding was done into the first places of `all`
+  pub record Decoded (out : List ℕ) (all : List ℤ) (r : DecoderAnswer) : Type 0 where
+    pub is-done : listNumber s (length bs) (length out) ≡ done
+    pub session : r .session ≡ decoderAfter s bs
+    pub inside : r .count ≤ length all
+    pub samples : take (r .count) all ≡ decodedSamples s bs
+    pub indices : s .position + length (decodedSamples s bs) ≤ 10 ^ 10
+    pub roomy : rowMost * length (decodedSamples s bs) ≤ length out
+
+  pub decoded : (out : List ℕ) (zs q : List ℤ) (k : ℕ) (r : DecoderAnswer) → 2048 ≡ length zs → k ≡ rowsFor (length out)
+      → r ≡ decodeAnswer s bs (length (take k zs)) → q ≡ decodeOut s bs (take k zs) → r .number ≡ done → Decoded out (q ++ drop k zs) r
+  unfolding decoderMoves
+  decoded out zs q k r l e a o d =
+      let ds = decodedSamples s bs in
+      let room = length (take k zs) in
+      let long : room ≡ k = length-take-le k zs (omega (arith, l, e)) in
+      let n : decodeNumber s (length bs) room ≡ done = sym (answer-number room) ∙ ap (λ (x : DecoderAnswer). x .number) (sym a) ∙ d in
+      let t = decode-taken s (length bs) room n in
+      let w = decode-done s bs (take k zs) n in
+      let reply : r ≡ decoderReply done (decodeRoom (s .rate) (length bs)) (decoderAfter s bs) = a ∙ sym (w .0) in
+      let count : r .count ≡ length ds = ap (λ (x : DecoderAnswer). x .count) reply ∙ sym (decoded-length s bs) in
+      let few : length ds ≤ room = omega (arith, decoded-length s bs, t .roomy) in
+      record {
+        is-done = rw (long, e) at n;
+        session = ap (λ (x : DecoderAnswer). x .session) reply;
+        inside = omega (arith, count, few, length-append q (drop k zs), ap length o, ap length (w .1), length-sets (take k zs) 0 ds);
+        samples = rw (count, o, sym (w .1)) (stored-front (take k zs) (drop k zs) ds few);
+        indices = omega (arith, t .not-past, decoded-length s bs);
+        roomy = omega (arith, few, long, e);
+      }
+
+  pub list-done : (out q : List ℕ) (n : ℕ) → listNumber s (length bs) (length out) ≡ done → n ≡ length (rowsOf s bs) → q ≡ sets out 0 (rowsOf s bs)
+      → (decoderReply done n (decoderAfter s bs) ≡ listAnswer s bs (length out)) × (q ≡ listOut s bs out)
+  unfolding listAnswer listOut
+  list-done out q n e c w = (rw (e, c), rw e w)
+
+  pub listed-session : (room : ℕ) → listNumber s (length bs) room ≡ done → listAnswer s bs room .session ≡ decoderAfter s bs
+  unfolding listAnswer
+  listed-session room e = rw e

@@ -1,0 +1,40 @@
+-- The two QMF filters of G.722 over the 24 filter numbers x.
+use lib.IntN.{ℤ, _*ℤ_, _+ℤ_, _-ℤ_}
+use lib.ListN.{drop}
+use lib.Signed.{shrZ}
+use mathlib.Core.List.{List, [], _∷_, _++_, reverse, zipWith}
+use Rattle.fixed.specs.Number.{sat}
+use Rattle.band.specs.Tables.{QMF-COEFFS}
+use Rattle.band.specs.Block4.{total}
+
+-- x moves down two places and takes a and b
+abbrev pub taking : List ℤ → ℤ → ℤ → List ℤ
+taking x a b = drop 2 x ++ (a ∷ b ∷ [])
+
+-- the first number, the third, and so on
+abbrev pub everyOther : List ℤ → List ℤ
+everyOther [] = []
+everyOther (a ∷ []) = a ∷ []
+everyOther (a ∷ b ∷ xs) = a ∷ everyOther xs
+
+abbrev pub dot : List ℤ → List ℤ → ℤ
+dot xs cs = total (zipWith _*ℤ_ xs cs)
+
+-- x0·C0 + x2·C1 + .. + x22·C11
+abbrev pub oddSum : List ℤ → ℤ
+oddSum x = dot (everyOther x) QMF-COEFFS
+
+-- x1·C11 + x3·C10 + .. + x23·C0
+abbrev pub evenSum : List ℤ → ℤ
+evenSum x = dot (everyOther (drop 1 x)) (reverse QMF-COEFFS)
+
+-- the transmit filter: the low and the high band's sample
+abbrev pub xlow : List ℤ → ℤ
+xlow x = shrZ (evenSum x +ℤ oddSum x) 16384
+
+abbrev pub xhigh : List ℤ → ℤ
+xhigh x = shrZ (evenSum x -ℤ oddSum x) 16384
+
+-- the receive filter: a sample from a sum
+abbrev pub received : ℤ → ℤ
+received sum = sat (shrZ sum 2048)

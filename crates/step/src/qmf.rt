@@ -1,0 +1,48 @@
+// The QMF filters.
+ghost use mathlib.Core.Path.{_≡_};
+ghost use lib.IntN.{ℤ, pos};
+ghost use Rattle.fixed.specs.Number.{minus, Is};
+ghost use Rattle.band.specs.Tables.{QMF-COEFFS};
+ghost use Rattle.step.specs.Qmf.{taking, evenSum, oddSum};
+
+pub(crate) struct Sums {
+    pub even: i32,
+    pub odd: i32,
+}
+
+// x moves down two places and takes a and b.
+pub(crate) fn shifted(x: [i16; 24], a: i16, b: i16) -> [i16; 24]
+    ensures { λ r. ⌜ r ≡ taking x a b ⌝ }
+{
+    let mut y = x;
+    let mut i: usize = 0;
+    while i < 22 {
+        y[i] = x[i + 2];
+        i += 1;
+    }
+    y[22] = a;
+    y[23] = b;
+    y
+}
+
+pub(crate) fn sum(qmf: &[i16; 12], x: [i16; 24]) -> Sums
+    requires { ⌜ now qmf ≡ QMF-COEFFS ⌝ }
+    ensures { λ r. ⌜ (Is (minus 212402176) (pos 212402176) (evenSum x) (r .even)) × (Is (minus 212402176) (pos 212402176) (oddSum x) (r .odd)) ⌝ }
+{
+    let mut even: i32 = 0;
+    let mut odd: i32 = 0;
+    let mut i: usize = 0;
+    while i < 12 {
+        let a = x[2 * i];
+        let c = qmf[i];
+        odd = odd + a as i32 * c as i32;
+        let b = x[2 * i + 1];
+        let e = qmf[11 - i];
+        even = even + b as i32 * e as i32;
+        i += 1;
+    }
+    Sums {
+        even: even,
+        odd: odd,
+    }
+}
