@@ -68,8 +68,9 @@ compare: checked-host
 	$(EMULATOR) build/host/$(TARGET)/checked/rozimaha-host compare
 
 bench: archive tools
+	rt check listing
 	$(CARGO) --profile release
-	$(EMULATOR) build/host/$(TARGET)/release/rozimaha-host bench
+	ROZIMAHA_EMULATOR=$(EMULATOR) $(EMULATOR) build/host/$(TARGET)/release/rozimaha-host bench
 
 record: checked-host
 	$(EMULATOR) build/host/$(TARGET)/checked/rozimaha-host record > crates/replay/data/recorded

@@ -5,7 +5,10 @@ use crate::marks;
 use crate::original::codec::{pcma::PcmaProcessor, pcmu::PcmuProcessor, CodecProcessor};
 use crate::proved::{self, Call, Coder};
 use crate::sessions::MARK_ROOM;
+use std::fs::File;
 use std::hint::black_box;
+use std::path::Path;
+use std::process::{Command, Stdio};
 use std::time::Instant;
 
 const TURNS: usize = 9;
@@ -13,6 +16,7 @@ const LAW_ITEMS: usize = 1 << 20;
 const G722_BYTES: usize = 64 << 20;
 const G722_TURNS: usize = 5;
 const G722_CALL: usize = 4096;
+const LISTED_BYTES: usize = 4 << 20;
 
 fn seconds(work: &mut dyn FnMut()) -> f64 {
     let start = Instant::now();
@@ -101,6 +105,35 @@ pub fn g722() {
     println!("|---|---|---|---|");
     g722_at(16000);
     g722_at(8000);
+}
+
+// Runs a program over the file, its output thrown away; under the emulator that ROZIMAHA_EMULATOR names, if it names one.
+fn run(program: &Path, word: Option<&str>, input: &Path) {
+    let emulator = std::env::var("ROZIMAHA_EMULATOR").unwrap_or_default();
+    let mut command = if emulator.is_empty() { Command::new(program) } else { Command::new(emulator) };
+    if command.get_program() != program {
+        command.arg(program);
+    }
+    let input = File::open(input).expect("the input was written above");
+    let status = command.args(word).stdin(input).stdout(Stdio::null()).status().expect("the program starts");
+    assert!(status.success());
+}
+
+pub fn listing() -> Result<(), String> {
+    let ours = Path::new("target/bin/listing");
+    if !ours.exists() {
+        return Err("no target/bin/listing: run `rt check listing` first".to_string());
+    }
+    let input = std::env::temp_dir().join("rozimaha-bench.g722");
+    let bytes: Vec<u8> = (0..LISTED_BYTES as u32).map(|i| (i.wrapping_mul(2654435761) >> 24) as u8).collect();
+    std::fs::write(&input, bytes).map_err(|why| format!("{}: {why}", input.display()))?;
+    let host = std::env::current_exe().map_err(|why| why.to_string())?;
+    let times = both(G722_TURNS, &mut || run(&host, Some("list"), &input), &mut || run(ours, None, &input));
+    println!("\nThe listing of {LISTED_BYTES} bytes, as a program of its own on either side; the original's writes through a buffer of 64 KiB.\n");
+    println!("| program | original, ns a byte | ours, ns a byte | ours / original |");
+    println!("|---|---|---|---|");
+    row("listing", LISTED_BYTES, times);
+    Ok(())
 }
 
 fn law(name: &str, encode: Call, decode: Call, original: &mut dyn CodecProcessor) {

@@ -1,5 +1,5 @@
 // Runs the proved calls beside the original Rust: `compare` looks for differences, `bench` measures both, `record` writes the
-// original's answers down for the program `replay`.
+// original's answers down for the program `replay`, and `list` does what the program `listing` does.
 mod noise;
 mod original;
 mod proved;
@@ -11,6 +11,8 @@ mod inside;
 #[cfg(original)]
 mod laws;
 #[cfg(original)]
+mod list;
+#[cfg(original)]
 mod marks;
 #[cfg(original)]
 mod record;
@@ -21,7 +23,7 @@ mod signals;
 
 use std::process::ExitCode;
 
-const USAGE: &str = "usage: rozimaha-host compare | bench | record";
+const USAGE: &str = "usage: rozimaha-host compare | bench | record | list";
 
 fn main() -> ExitCode {
     let words: Vec<String> = std::env::args().skip(1).collect();
@@ -30,6 +32,7 @@ fn main() -> ExitCode {
         ["compare"] => told(compare()),
         ["bench"] => told(bench()),
         ["record"] => told(record()),
+        ["list"] => told(list()),
         _ => {
             eprintln!("{USAGE}");
             ExitCode::from(2)
@@ -59,7 +62,12 @@ fn compare() -> Result<(), String> {
 fn bench() -> Result<(), String> {
     bench::laws();
     bench::g722();
-    Ok(())
+    bench::listing()
+}
+
+#[cfg(original)]
+fn list() -> Result<(), String> {
+    list::list().map_err(|why| format!("listing: {why}"))
 }
 
 #[cfg(original)]
@@ -74,4 +82,4 @@ fn missing() -> Result<(), String> {
 }
 
 #[cfg(not(original))]
-use self::{missing as bench, missing as compare, missing as record};
+use self::{missing as bench, missing as compare, missing as list, missing as record};

@@ -234,7 +234,7 @@ fn last_positions(noise: &mut Noise, tally: &mut Tally) -> Result<(), String> {
                 let items = if kind == Kind::Encoder && rate != 8000 { left / 2 * 2 } else { left / per_item } as usize;
                 let width = if kind == Kind::Encoder { 2 } else { 1 };
                 let more = if kind == Kind::Encoder && rate != 8000 { items + 2 } else { items + 1 };
-                life.refused(&noise.bytes(more * width), 2 * more, MARK_ROOM, 5, tally)?;
+                life.refused(&noise.bytes(more * width), 4 * more, MARK_ROOM, 5, tally)?;
                 life.go(&noise.bytes(items * width), 0, tally)?;
                 life.go(&[], 0, tally)?;
             }

@@ -1,6 +1,5 @@
 -- The Bool of a range, and of a list of numbers, beside what is known of each number.
 use Prim.Native.Nat.{ℕ, zero, suc, _<_, _^_}
-use native.Mathlib.Omega.{arith}
 use mathlib.Core.Bool.{Bool, true, false, _&&_, false≢true}
 use mathlib.Core.List.{List, [], _∷_, _++_, map, map-id, zipWith}
 use denote.Array.{each}
@@ -12,7 +11,7 @@ use lib.IntN.{ℤ, pos, negsuc}
 use lib.ListN.{getD, drop, take}
 use lib.Signed.{mag, leZ, _≤ℤ_}
 use mir.Syntax.{w16}
-use mir.Val.{Val, SFits}
+use mir.Val.{Val}
 use Rattle.fixed.specs.Number.{In, In16}
 use Rattle.fixed.proofs.Wide.{in16-of}
 use Rattle.band.specs.declared.Band.{Band}
@@ -94,15 +93,21 @@ array-words (x ∷ xs) (u ∷ us) p = more-words x xs (in16-of x (record { sfits
 pub field-words : (xs : List ℤ) (us : List Val) → shadow (each ℤ (SInt w16 .own) (map (λ (v : ℤ). v) xs) us) → allWords xs ≡ true
 field-words xs us p = array-words xs us (subst (λ (ys : List ℤ). shadow (each ℤ (SInt w16 .own) ys us)) (map-id xs) p)
 
--- a band whose fields each fit
+-- ---- a band whose fields each fit
+abbrev Fits : ℤ → Type 0
+Fits z = mag z < 2 ^ 15
+
+more : (z : ℤ) (zs : List ℤ) → Fits z → allWords zs ≡ true → allWords (z ∷ zs) ≡ true
+more z zs h e = more-words z zs (in16-of z (record { sfits = h })) e
+
 pub band-words : (k : Band)
-    → mag (k .s) < 2 ^ 15 → mag (k .sp) < 2 ^ 15 → mag (k .sz) < 2 ^ 15 → mag (k .r1) < 2 ^ 15 → mag (k .r2) < 2 ^ 15 → mag (k .a1) < 2 ^ 15
-    → mag (k .a2) < 2 ^ 15 → mag (k .p1) < 2 ^ 15 → mag (k .p2) < 2 ^ 15 → mag (k .d1) < 2 ^ 15 → mag (k .d2) < 2 ^ 15 → mag (k .d3) < 2 ^ 15
-    → mag (k .d4) < 2 ^ 15 → mag (k .d5) < 2 ^ 15 → mag (k .d6) < 2 ^ 15 → mag (k .b1) < 2 ^ 15 → mag (k .b2) < 2 ^ 15 → mag (k .b3) < 2 ^ 15
-    → mag (k .b4) < 2 ^ 15 → mag (k .b5) < 2 ^ 15 → mag (k .b6) < 2 ^ 15 → mag (k .nb) < 2 ^ 15 → mag (k .det) < 2 ^ 15
+    → Fits (k .s) → Fits (k .sp) → Fits (k .sz) → Fits (k .r1) → Fits (k .r2) → Fits (k .a1) → Fits (k .a2) → Fits (k .p1) → Fits (k .p2)
+    → Fits (k .d1) → Fits (k .d2) → Fits (k .d3) → Fits (k .d4) → Fits (k .d5) → Fits (k .d6)
+    → Fits (k .b1) → Fits (k .b2) → Fits (k .b3) → Fits (k .b4) → Fits (k .b5) → Fits (k .b6)
+    → Fits (k .nb) → Fits (k .det)
     → allWords (bandNumbers k) ≡ true
-band-words k hs hsp hsz hr1 hr2 ha1 ha2 hp1 hp2 hd1 hd2 hd3 hd4 hd5 hd6 hb1 hb2 hb3 hb4 hb5 hb6 hnb hdet =
-    word _ _ hs (word _ _ hsp (word _ _ hsz (word _ _ hr1 (word _ _ hr2 (word _ _ ha1 (word _ _ ha2 (word _ _ hp1 (word _ _ hp2 (word _ _ hd1 (word _ _ hd2 (word _ _ hd3 (word _ _ hd4 (word _ _ hd5 (word _ _ hd6 (word _ _ hb1 (word _ _ hb2 (word _ _ hb3 (word _ _ hb4 (word _ _ hb5 (word _ _ hb6 (word _ _ hnb (word _ _ hdet (no-words)))))))))))))))))))))))
-  where
-    word : (z : ℤ) (zs : List ℤ) → mag z < 2 ^ 15 → allWords zs ≡ true → allWords (z ∷ zs) ≡ true
-    word z zs h e = more-words z zs (in16-of z (record { sfits = h })) e
+band-words k s sp sz r1 r2 a1 a2 p1 p2 d1 d2 d3 d4 d5 d6 b1 b2 b3 b4 b5 b6 nb det =
+    more _ _ s (more _ _ sp (more _ _ sz (more _ _ r1 (more _ _ r2 (more _ _ a1 (more _ _ a2 (more _ _ p1 (more _ _ p2 (
+    more _ _ d1 (more _ _ d2 (more _ _ d3 (more _ _ d4 (more _ _ d5 (more _ _ d6 (
+    more _ _ b1 (more _ _ b2 (more _ _ b3 (more _ _ b4 (more _ _ b5 (more _ _ b6 (
+    more _ _ nb (more _ _ det no-words))))))))))))))))))))))

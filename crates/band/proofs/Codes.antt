@@ -15,7 +15,8 @@ use Rattle.band.specs.Tables.{ILN, ILP, IHN, IHP}
 use Rattle.band.specs.Quantise.{QUANTH, QUANTL, codeAt, first, magnitude, placeHigh, placeLow}
 
 -- ---- a code has what both tables have at its place
-of-both : (negative positive : List ℕ) (e : ℤ) (i : ℕ) (P : ℕ → Type 0) → P (getD negative i 0) → P (getD positive i 0) → P (codeAt negative positive e i)
+of-both : (negative positive : List ℕ) (e : ℤ) (i : ℕ) (P : ℕ → Type 0)
+    → P (getD negative i 0) → P (getD positive i 0) → P (codeAt negative positive e i)
 unfolding codeAt
 of-both negative positive e i P p q = go (ltZ e (pos 0))
   where
@@ -49,7 +50,8 @@ least-at lo [] t i h = absurd (omega arith)
 least-at lo (x ∷ xs) t zero h = leb→le lo x (and-l (leb lo x) (allLeast lo xs) t)
 least-at lo (x ∷ xs) t (suc i) h = least-at lo xs (and-r (leb lo x) (allLeast lo xs) t) i (omega arith)
 
-entry-least : (xs : List ℕ) → T (allLeast 4 (take 30 (drop 1 xs))) → length (take 30 (drop 1 xs)) ≡ 30 → (i : ℕ) → 1 ≤ i → i ≤ 30 → 4 ≤ getD xs i 0
+entry-least : (xs : List ℕ) → T (allLeast 4 (take 30 (drop 1 xs))) → length (take 30 (drop 1 xs)) ≡ 30
+    → (i : ℕ) → 1 ≤ i → i ≤ 30 → 4 ≤ getD xs i 0
 entry-least xs t n zero h k = absurd (omega arith)
 entry-least xs t n (suc i) h k =
     let below : i < 30 = omega arith in

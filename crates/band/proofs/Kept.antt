@@ -1,14 +1,14 @@
 -- A band's update keeps the bounds, whatever band of 16-bit numbers it is given.
 use Prim.Native.Nat.{ℕ, _+_, _*_, zero-le}
 use mathlib.Core.Bool.{true}
-use mathlib.Core.List.{List, [], _∷_, zipWith}
+use mathlib.Core.List.{List, [], zipWith}
 use mathlib.Core.Path.{_≡_}
 use lib.Dec.{T, leb, le→leb}
 use lib.IntN.{ℤ, pos}
 use lib.ListN.{drop, getD}
 use Rattle.fixed.specs.Number.{minus, In, In16, sat}
-use Rattle.fixed.proofs.Signed.{≤-trans, clamp-in}
-use Rattle.fixed.proofs.Wide.{allIn, in-mul, in-shr, table, within}
+use Rattle.fixed.proofs.Signed.{≤-trans, clamp-in, in-mul, in-shr, within}
+use Rattle.fixed.proofs.Wide.{allIn, table}
 use Rattle.band.specs.declared.Band.{Band}
 use Rattle.band.specs.Tables.{QM4, QM2, WL, WH, RL42, RH2}
 use Rattle.band.specs.Bounds.{bandNumbers, allWords, bandInBounds}
@@ -37,28 +37,37 @@ module _ (top : ℤ) (k : Band) (d nb det : ℤ) (w : allWords (bandNumbers k) �
       let scales = more-words nb _ m (more-words det [] (within _ _ h tt tt) no-words) in
       let tail = words-join (DELAYA d (differences k)) _ delays-in (words-join (UPZERO d (differences k) (zeros k)) _ zeros-in scales) in
       let poles = more-words _ _ (within _ _ (pole-lit _ a2 a1) tt tt) (more-words _ _ (within _ _ a2 tt tt) (more-words _ _ (sat-in _)
-          (more-words _ _ (word-at (bandNumbers k) w 7) tail))) in
+      (more-words _ _ (word-at (bandNumbers k) w 7) tail))) in
       let words = more-words _ _ (sat-in _) (more-words _ _ (sat-in _) (more-words _ _ (sat-in _) (more-words _ _ (sat-in _)
-          (more-words _ _ (word-at (bandNumbers k) w 3) poles)))) in
+      (more-words _ _ (word-at (bandNumbers k) w 3) poles)))) in
       both words (both (both (both (between-in _ _ _ a2) (between-in _ _ _ a1)) (between-in _ _ _ n)) (between-in _ _ _ h))
 
 word-of : {z : ℤ} (most : ℕ) → T (leb most 32767) → In (pos 0) (pos most) z → In16 z
-word-of {z} most u n = record { low = ≤-trans (minus 32768) (pos 0) z (record { le = tt }) (n .low); high = ≤-trans z (pos most) (pos 32767) (n .high) (record { le = u }) }
+word-of {z} most u n = record {
+  low = ≤-trans (minus 32768) (pos 0) z (record { le = tt }) (n .low);
+  high = ≤-trans z (pos most) (pos 32767) (n .high) (record { le = u });
+}
 
 -- of either band: its greatest nb is 2048 times one more than its base
-update-in : (qm : List ℤ) → T (allIn (minus 32767) (pos 32767) qm) → (w : List ℤ) (r : List ℕ) (base : ℕ) → T (leb (2048 * (base + 1)) 32767)
-    → (k : Band) → allWords (bandNumbers k) ≡ true → (code : ℕ)
-    → bandInBounds (update (λ det i. INVQ det (getD qm i (pos 0))) (λ nb i. LOGSC (pos (2048 * (base + 1))) nb (getD w (getD r i 0) (pos 0))) (SCALE base) k code) (pos (2048 * (base + 1))) ≡ true
-update-in qm t w r base u k words code =
-    let most = 2048 * (base + 1) in
-    let n = clamp-in (pos 0) (pos most) _ (record { le = le→leb 0 most zero-le }) in
-    let d = within _ _ (in-shr 15 (in-mul (word-at (bandNumbers k) words 22) (table (minus 32767) (pos 32767) qm t code))) tt tt in
-    block4-in (pos most) k _ _ _ words d n (word-of most u n) (det-in _ base (nat-in most _ n))
+module _ (qm w : List ℤ) (r : List ℕ) (base : ℕ) (t : T (allIn (minus 32767) (pos 32767) qm)) (u : T (leb (2048 * (base + 1)) 32767)) where
+  abbrev invert : ℤ → ℕ → ℤ
+  invert det code = INVQ det (getD qm code (pos 0))
+
+  abbrev log : ℤ → ℕ → ℤ
+  log nb code = LOGSC (pos (2048 * (base + 1))) nb (getD w (getD r code 0) (pos 0))
+
+  update-in : (k : Band) → allWords (bandNumbers k) ≡ true → (code : ℕ)
+      → bandInBounds (update invert log (SCALE base) k code) (pos (2048 * (base + 1))) ≡ true
+  update-in k words code =
+      let most = 2048 * (base + 1) in
+      let n = clamp-in (pos 0) (pos most) _ (record { le = le→leb 0 most zero-le }) in
+      let d = within _ _ (in-shr 15 (in-mul (word-at (bandNumbers k) words 22) (table (minus 32767) (pos 32767) qm t code))) tt tt in
+      block4-in (pos most) k _ _ _ words d n (word-of most u n) (det-in _ base (nat-in most _ n))
 
 pub low-in : (k : Band) → allWords (bandNumbers k) ≡ true → (ril : ℕ) → bandInBounds (lowUpdate k ril) (pos 18432) ≡ true
 unfolding lowUpdate
-low-in = update-in QM4 tt WL RL42 8 tt
+low-in = update-in QM4 WL RL42 8 tt tt
 
 pub high-in : (k : Band) → allWords (bandNumbers k) ≡ true → (ihigh : ℕ) → bandInBounds (highUpdate k ihigh) (pos 22528) ≡ true
 unfolding highUpdate
-high-in = update-in QM2 tt WH RH2 10 tt
+high-in = update-in QM2 WH RH2 10 tt tt

@@ -1,10 +1,9 @@
 -- The bound of the first pole coefficient, 15360 less the second, which UPPOL1 keeps.
-use lib.IntN.{ℤ, pos, negsuc, negℤ, _-ℤ_}
+use lib.IntN.{ℤ, pos, negℤ, _-ℤ_}
 use lib.Signed.{_≤ℤ_}
 use mathlib.Core.Path.{_≡_, sym, subst}
 use Rattle.fixed.specs.Number.{minus, In, sat}
-use Rattle.fixed.proofs.Signed.{≤-trans, clamp-id, clamp-in, in-clamp, in-from, neg-le}
-use Rattle.fixed.proofs.Wide.{in-neg, within}
+use Rattle.fixed.proofs.Signed.{≤-trans, clamp-id, clamp-in, in-clamp, in-from, neg-le, in-neg, within}
 use Rattle.band.specs.Block4.{UPPOL1}
 
 module _ (ap2 : ℤ) (l : In (minus 12288) (pos 12288) ap2) where
@@ -24,7 +23,10 @@ module _ (ap2 : ℤ) (l : In (minus 12288) (pos 12288) ap2) where
   pub pole-lit : {z : ℤ} → In (negℤ (pos 15360 -ℤ ap2)) (pos 15360 -ℤ ap2) z → In (minus 27648) (pos 27648) z
   pole-lit {z} i =
       let w = pos 15360 -ℤ ap2 in
-      record { low = ≤-trans (minus 27648) (negℤ w) z (in-neg rest-in .low) (i .low); high = ≤-trans z w (pos 27648) (i .high) (rest-in .high) }
+      record {
+        low = ≤-trans (minus 27648) (negℤ w) z (in-neg rest-in .low) (i .low);
+        high = ≤-trans z w (pos 27648) (i .high) (rest-in .high);
+      }
 
 -- what UPPOL1 gives
 pub pole-in : (a1 ap2 p0 p1 : ℤ) → In (minus 12288) (pos 12288) ap2 → In (negℤ (pos 15360 -ℤ ap2)) (pos 15360 -ℤ ap2) (UPPOL1 a1 ap2 p0 p1)

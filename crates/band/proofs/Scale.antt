@@ -42,4 +42,7 @@ nat-in m (pos n) i = leb→le n m (i .high .le)
 nat-in m (negsuc n) i = absurd (i .low .le)
 
 pub det-in : (n base : ℕ) → n ≤ 2048 * (base + 1) → In (pos 0) (pos 16384) (pos (detOf base n))
-det-in n base h = record { low = record { le = le→leb 0 (detOf base n) zero-le }; high = record { le = le→leb (detOf base n) 16384 (det-most n base h) } }
+det-in n base h = record {
+  low = record { le = le→leb 0 (detOf base n) zero-le };
+  high = record { le = le→leb (detOf base n) 16384 (det-most n base h) };
+}

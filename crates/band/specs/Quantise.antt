@@ -16,7 +16,7 @@ SUBTRA x s = sat (x -ℤ s)
 unfoldable pub magnitude : ℤ → ℤ
 magnitude e = cond (ltZ e (pos 0)) (negℤ (e +ℤ pos 1)) e
 
--- the first of i, i + 1, .., n numbers, that passes the test; else i + n
+-- the first of the n numbers i, i + 1, .. that passes the test, else i + n
 unfoldable pub first : (ℕ → Bool) → ℕ → ℕ → ℕ
 first test zero i = i
 first test (suc n) i = cond (test i) i (first test n (i + 1))
@@ -36,7 +36,7 @@ placeLow w det = first (λ (i : ℕ). below w det (getD Q6 i (pos 0))) 29 1
 abbrev pub QUANTL : ℤ → ℤ → ℕ
 QUANTL el det = codeAt ILN ILP el (placeLow (magnitude el) det)
 
--- there is one level
+-- the high band has one level
 unfoldable pub placeHigh : ℤ → ℤ → ℕ
 placeHigh w det = cond (below w det (pos 564)) 1 2
 

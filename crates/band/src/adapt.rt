@@ -1,7 +1,7 @@
 // Block 3: the scale factors.
 ghost use mathlib.Core.Path.{_≡_};
 ghost use Prim.Native.Nat.{_≤_, _*_, _+_};
-ghost use lib.IntN.{ℤ, pos};
+ghost use lib.IntN.{pos};
 ghost use Rattle.fixed.specs.Number.{In, In16, Is};
 ghost use Rattle.band.specs.Tables.{ILB};
 ghost use Rattle.band.specs.Adapt.{LOGSC, SCALE};

@@ -2,7 +2,7 @@
 use crate::Band;
 ghost use mathlib.Core.List.{[], _∷_};
 ghost use mathlib.Core.Path.{_≡_};
-ghost use lib.IntN.{ℤ, pos};
+ghost use lib.IntN.{pos};
 ghost use Rattle.fixed.specs.Number.{minus, In, Is};
 ghost use Rattle.band.specs.Block4.{UPPOL2, UPPOL1, gainOf, zeroed, FILTEP, FILTEZ, BLOCK4};
 
@@ -12,7 +12,11 @@ fn uppol2(a1: i16, a2: i16, p0: i16, p1: i16, p2: i16) -> i16
     let wd1 = fixed::saturate(a1 as i32 * 4);
     let wd2 = fixed::saturate(-fixed::signed_by(p0, fixed::signed_by(p1, wd1 as i32)));
     let wd3 = fixed::signed_by(p0, fixed::signed_by(p2, 128));
-    fixed::clamp((wd2 as i32 >> 7) + wd3 + ((a2 as i32 * 32512) >> 15), -12288, 12288) as i16
+    fixed::clamp(
+        (wd2 as i32 >> 7) + wd3 + ((a2 as i32 * 32512) >> 15),
+        -12288,
+        12288,
+    ) as i16
 }
 
 fn uppol1(a1: i16, ap2: i16, p0: i16, p1: i16) -> i16
@@ -39,7 +43,7 @@ fn gain_of(d: i16) -> i32
     0
 }
 
-// UPZERO, for one of the six.
+// UPZERO, for one of the six zeros.
 fn upzero(gain: i32, d: i16, b: i16) -> i16
     requires { ⌜ In (minus 128) (pos 128) gain ⌝ }
     ensures { λ r. ⌜ r ≡ zeroed gain d b ⌝ }
@@ -94,7 +98,20 @@ pub(crate) fn block4(d: i16, nb: i16, det: i16, band: Band) -> Band
     let b5 = upzero(gain, band.d5, band.b5);
     let b6 = upzero(gain, band.d6, band.b6);
     let sp = filtep(a1, a2, r0, band.r1);
-    let sz = filtez(b1, b2, b3, b4, b5, b6, d, band.d1, band.d2, band.d3, band.d4, band.d5);
+    let sz = filtez(
+        b1,
+        b2,
+        b3,
+        b4,
+        b5,
+        b6,
+        d,
+        band.d1,
+        band.d2,
+        band.d3,
+        band.d4,
+        band.d5,
+    );
     let s = fixed::plus(sp, sz);
     Band {
         s: s,

@@ -1,4 +1,4 @@
-// One band's record, and what both ends of G.722 do with it: the quantisers, their inverses, the scale factors and the predictor of block 4.
+// A band's record, and what both ends of G.722 do with it: quantisers, scale factors, and the predictor of block 4.
 mod adapt;
 mod block4;
 pub mod quantise;

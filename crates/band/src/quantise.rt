@@ -3,7 +3,7 @@ ghost use mathlib.Core.Path.{_≡_};
 ghost use Prim.Native.Nat.{_<_};
 ghost use mathlib.Core.Bool.{cond};
 ghost use lib.Signed.{ltZ};
-ghost use lib.IntN.{ℤ, pos};
+ghost use lib.IntN.{pos};
 ghost use Rattle.band.specs.Tables.{Q6, ILN, ILP, IHN, IHP};
 ghost use Rattle.band.specs.Quantise.{magnitude, placeLow, placeHigh, QUANTL, QUANTH};
 

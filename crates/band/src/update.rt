@@ -4,7 +4,7 @@ use crate::adapt;
 use crate::block4;
 ghost use mathlib.Core.Path.{_≡_};
 ghost use Prim.Native.Nat.{_<_, _≤_, _*_, _+_};
-ghost use lib.IntN.{ℤ, pos};
+ghost use lib.IntN.{pos};
 ghost use Rattle.fixed.specs.Number.{minus, In, In16};
 ghost use Rattle.band.specs.Tables.{QM4, QM2, WL, WH, RL42, RH2, ILB};
 ghost use Rattle.band.specs.Block4.{BLOCK4};
@@ -22,7 +22,14 @@ fn update(ilb: &[u32; 32], base: u32, most: i32, q: i32, w: i32, band: Band) -> 
 }
 
 // ril is the upper four of the low band's six bits.
-pub fn low_update(qm4: &[i32; 16], wl: &[i32; 8], rl42: &[usize; 16], ilb: &[u32; 32], ril: usize, band: Band) -> Band
+pub fn low_update(
+    qm4: &[i32; 16],
+    wl: &[i32; 8],
+    rl42: &[usize; 16],
+    ilb: &[u32; 32],
+    ril: usize,
+    band: Band,
+) -> Band
     requires { ⌜ (now qm4 ≡ QM4) × (now wl ≡ WL) × (now rl42 ≡ RL42) × (now ilb ≡ ILB) × (ril < 16) ⌝ }
     ensures { λ r. ⌜ r ≡ lowUpdate band ril ⌝ }
 {
@@ -30,7 +37,14 @@ pub fn low_update(qm4: &[i32; 16], wl: &[i32; 8], rl42: &[usize; 16], ilb: &[u32
     update(ilb, 8, Band::LOW_NB_MOST, qm4[ril], wl[il4], band)
 }
 
-pub fn high_update(qm2: &[i32; 4], wh: &[i32; 3], rh2: &[usize; 4], ilb: &[u32; 32], ihigh: usize, band: Band) -> Band
+pub fn high_update(
+    qm2: &[i32; 4],
+    wh: &[i32; 3],
+    rh2: &[usize; 4],
+    ilb: &[u32; 32],
+    ihigh: usize,
+    band: Band,
+) -> Band
     requires { ⌜ (now qm2 ≡ QM2) × (now wh ≡ WH) × (now rh2 ≡ RH2) × (now ilb ≡ ILB) × (ihigh < 4) ⌝ }
     ensures { λ r. ⌜ r ≡ highUpdate band ihigh ⌝ }
 {

@@ -2,7 +2,6 @@
 use mathlib.Core.List.{List}
 use mathlib.Core.Path.{_≡_}
 use Prim.Native.Nat.{ℕ, _≤_, _<_}
-use lib.Dec.{ltb}
 use lib.ListN.{length}
 use borrow.Author.Tests.{lt-ltb, le-ltb}
 use Rattle.answers.specs.Numbers.{done, badStart}
@@ -27,11 +26,11 @@ module _ (rate start : ℕ) (mark : List ℕ) where
   unfolding encoderBegun beginNumber
   encoder-number h = rw (le-ltb 1 start h)
 
-  pub encoder-begun : start ≤ 1 → (b : EncoderAnswer) → b ≡ encoderBegun rate start → (r : EncoderAnswer)
-      → r ≡ encoderWriteAnswer (b .session) (length mark) → (left : List ℕ) → left ≡ encoderWriteOut (b .session) mark
+  pub encoder-begun : start ≤ 1 → {b r : EncoderAnswer} {left : List ℕ} → b ≡ encoderBegun rate start
+      → r ≡ encoderWriteAnswer (b .session) (length mark) → left ≡ encoderWriteOut (b .session) mark
       → (r .number ≡ encoderBeginNumber rate start mark) × (left ≡ encoderBeginMark rate start mark)
   unfolding encoderBeginNumber encoderBeginMark beginCallNumber writeAnswer writeOut writeNumber
-  encoder-begun h b begun r answered left written =
+  encoder-begun h begun answered written =
       let e = encoder-begun-in rate start in
       let n = encoder-number h in
       (rw (answered, begun, e, n), rw (written, begun, e, n))
@@ -46,11 +45,11 @@ module _ (rate start : ℕ) (mark : List ℕ) where
   unfolding decoderBegun beginNumber
   decoder-number h = rw (le-ltb 1 start h)
 
-  pub decoder-begun : start ≤ 1 → (b : DecoderAnswer) → b ≡ decoderBegun rate start → (r : DecoderAnswer)
-      → r ≡ decoderWriteAnswer (b .session) (length mark) → (left : List ℕ) → left ≡ decoderWriteOut (b .session) mark
+  pub decoder-begun : start ≤ 1 → {b r : DecoderAnswer} {left : List ℕ} → b ≡ decoderBegun rate start
+      → r ≡ decoderWriteAnswer (b .session) (length mark) → left ≡ decoderWriteOut (b .session) mark
       → (r .number ≡ decoderBeginNumber rate start mark) × (left ≡ decoderBeginMark rate start mark)
   unfolding decoderBeginNumber decoderBeginMark beginCallNumber writeAnswer writeOut writeNumber
-  decoder-begun h b begun r answered left written =
+  decoder-begun h begun answered written =
       let e = decoder-begun-in rate start in
       let n = decoder-number h in
       (rw (answered, begun, e, n), rw (written, begun, e, n))

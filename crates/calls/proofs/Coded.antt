@@ -31,9 +31,8 @@ passed : (t : Bool) (k rest : ℕ) → (t ≡ true → k ≡ 0 → ⊥) → cond
 passed true k rest h e = absurd (h refl e)
 passed false k rest h e = (refl, e)
 
--- what every test that was passed says
+-- what the tests say that were passed
 record Taken (restored : ℕ) (half : Bool) (coded room : ℕ) : Type 0 where
-  restores : restored ≡ done
   whole : half ≡ false
   codes : coded ≡ done
   roomy : 512 ≤ room
@@ -45,85 +44,115 @@ taken restored half coded room e =
     let b = passed half oddCount _ (λ t z. omega (arith, z)) (a .1) in
     let c = passed (eqb coded oddCount) oddCount _ (λ t z. omega (arith, z)) (b .1) in
     let d = passed (ltb room 512) noRoom _ (λ t z. omega (arith, z)) (c .1) in
-    record { restores = eqb-true restored done (not-false _ (a .0)); whole = b .0; codes = d .1; roomy = ltb-false room 512 (d .0) }
+    record { whole = b .0; codes = d .1; roomy = ltb-false room 512 (d .0) }
 
 -- ---- encoders
 
-module _ (mark input out next : List ℕ) (r : EncoderAnswer) (restored : r ≡ encoderOf mark) (coded k : ℕ)
-    (coded-is : coded ≡ encodeNumber (r .session) (length input / 2) (length out))
-    (k-is : k ≡ callNumber (r .number) (not (eqb (length input % 2) 0)) coded (length next)) where
+-- k is the number of a call on a mark that restores to r
+pub record EncodeCall (mark input out next : List ℕ) (r : EncoderAnswer) (k : ℕ) : Type 0 where
+  pub restored : r ≡ encoderOf mark
+  pub coded : ℕ
+  pub coded-is : coded ≡ encodeNumber (r .session) (length input / 2) (length out)
+  pub number-is : k ≡ callNumber (r .number) (not (eqb (length input % 2) 0)) coded (length next)
+
+-- the answer k, and what is left in both buffers
+abbrev EncodeCallAnswer : (mark input out next : List ℕ) → ℕ → List ℕ → List ℕ → Type 0
+EncodeCallAnswer mark input out next k left line =
+    (k ≡ encodeCallNumber mark input out next) × ((left ≡ encodeCallOut mark input out next) × (line ≡ encodeCallMark mark input out next))
+
+module _ {mark input out next : List ℕ} {r : EncoderAnswer} {k : ℕ} (call : EncodeCall mark input out next r k) where
   encode-number : k ≡ encodeCallNumber mark input out next
   unfolding encodeCallNumber
-  encode-number = k-is ∙ rw (coded-is, restored)
+  encode-number = call .number-is ∙ rw (call .coded-is, call .restored)
 
   pub encode-refused : (k ≡ done → ⊥)
-      → (k ≡ encodeCallNumber mark input out next) × ((out ≡ encodeCallOut mark input out next) × (next ≡ encodeCallMark mark input out next))
+      → EncodeCallAnswer mark input out next k out next
   unfolding encodeCallOut encodeCallMark
   encode-refused z =
       let e = ne-eqb k done z in
       (encode-number, (rw (← encode-number, e), rw (← encode-number, e)))
 
   module _ (is-done : k ≡ done) where
-    pub encode-asks : (length input % 2 ≡ 0) × (encodeNumber (r .session) (length input / 2) (length out) ≡ done)
-    encode-asks =
-        let t = taken _ _ coded (length next) (sym k-is ∙ is-done) in
-        (eqb-true _ _ (not-false _ (t .whole)), sym coded-is ∙ t .codes)
+    encode-passed : Taken (r .number) (not (eqb (length input % 2) 0)) (call .coded) (length next)
+    encode-passed = taken _ _ (call .coded) (length next) (sym (call .number-is) ∙ is-done)
 
-    -- w is what writing the mark of the session after the samples answers
-    module _ (words : allWords (samples input) ≡ true) (fits : r .session .rate ≤ rateMost) (after : Encoder)
+    pub encode-asks : (length input % 2 ≡ 0) × (encodeNumber (r .session) (length input / 2) (length out) ≡ done)
+    encode-asks = (eqb-true _ _ (not-false _ (encode-passed .whole)), sym (call .coded-is) ∙ encode-passed .codes)
+
+    -- the new mark is written: 512 bytes hold it
+    module _ (words : allWords (samples input) ≡ true) (fits : r .session .rate ≤ rateMost) {after : Encoder}
         (after-is : after ≡ encoderAfter (r .session) (samples input)) where
       encoder-mark : encoderWriteAnswer after (length next) .number ≡ done
       unfolding encoderAfter
       encoder-mark =
           let s = r .session in
-          let t = taken _ _ coded (length next) (sym k-is ∙ is-done) in
           let e = encode-taken s (length input / 2) (length out) (encode-asks .1) in
           let moved = rw (← length-samples input) at (e .not-past) in
-          rw after-is (encoder-writes (encoderAfter s (samples input)) fits (encoder-after-in s (samples input) words moved (e .inside)) (length next) (t .roomy))
+          let inside = encoder-after-in s (samples input) words moved (e .inside) in
+          rw after-is (encoder-writes (encoderAfter s (samples input)) fits inside (length next) (encode-passed .roomy))
 
-      pub encode-done : (left line : List ℕ) (w : EncoderAnswer) → left ≡ sets out 0 (encodedBytes (r .session) (samples input))
+      pub encode-done : {left line : List ℕ} {w : EncoderAnswer} → left ≡ sets out 0 (encodedBytes (r .session) (samples input))
           → w ≡ encoderWriteAnswer after (length next) → line ≡ encoderWriteOut after next
-          → (w .number ≡ encodeCallNumber mark input out next) × ((left ≡ encodeCallOut mark input out next) × (line ≡ encodeCallMark mark input out next))
+          → EncodeCallAnswer mark input out next (w .number) left line
       unfolding encodeCallOut encodeCallMark writeAnswer writeOut
-      encode-done left line w left-is w-is line-is =
-          let number = ap (λ (a : EncoderAnswer). a .number) w-is ∙ encoder-mark ∙ sym is-done ∙ encode-number in
-          (number, (rw (← encode-number, is-done, ← restored) left-is, rw (← encode-number, is-done, ← restored, ← after-is) (line-is ∙ rw encoder-mark)))
+      encode-done left-is w-is line-is = (
+        ap (λ (a : EncoderAnswer). a .number) w-is ∙ encoder-mark ∙ sym is-done ∙ encode-number,
+        (
+          rw (← encode-number, is-done, ← call .restored) left-is,
+          rw (← encode-number, is-done, ← call .restored, ← after-is) (line-is ∙ rw encoder-mark),
+        ),
+      )
 
--- ---- decoders
+-- ---- decoders, likewise
 
-module _ (mark input out next : List ℕ) (r : DecoderAnswer) (restored : r ≡ decoderOf mark) (coded k : ℕ)
-    (coded-is : coded ≡ decodeNumber (r .session) (length input) (length out / 2))
-    (k-is : k ≡ callNumber (r .number) false coded (length next)) where
+pub record DecodeCall (mark input out next : List ℕ) (r : DecoderAnswer) (k : ℕ) : Type 0 where
+  pub restored : r ≡ decoderOf mark
+  pub coded : ℕ
+  pub coded-is : coded ≡ decodeNumber (r .session) (length input) (length out / 2)
+  pub number-is : k ≡ callNumber (r .number) false coded (length next)
+
+-- the answer k, and what is left in both buffers
+abbrev DecodeCallAnswer : (mark input out next : List ℕ) → ℕ → List ℕ → List ℕ → Type 0
+DecodeCallAnswer mark input out next k left line =
+    (k ≡ decodeCallNumber mark input out next) × ((left ≡ decodeCallOut mark input out next) × (line ≡ decodeCallMark mark input out next))
+
+module _ {mark input out next : List ℕ} {r : DecoderAnswer} {k : ℕ} (call : DecodeCall mark input out next r k) where
   decode-number : k ≡ decodeCallNumber mark input out next
   unfolding decodeCallNumber
-  decode-number = k-is ∙ rw (coded-is, restored)
+  decode-number = call .number-is ∙ rw (call .coded-is, call .restored)
 
   pub decode-refused : (k ≡ done → ⊥)
-      → (k ≡ decodeCallNumber mark input out next) × ((out ≡ decodeCallOut mark input out next) × (next ≡ decodeCallMark mark input out next))
+      → DecodeCallAnswer mark input out next k out next
   unfolding decodeCallOut decodeCallMark
   decode-refused z =
       let e = ne-eqb k done z in
       (decode-number, (rw (← decode-number, e), rw (← decode-number, e)))
 
   module _ (is-done : k ≡ done) where
-    pub decode-asks : decodeNumber (r .session) (length input) (length out / 2) ≡ done
-    decode-asks = sym coded-is ∙ taken _ _ coded (length next) (sym k-is ∙ is-done) .codes
+    decode-passed : Taken (r .number) false (call .coded) (length next)
+    decode-passed = taken _ _ (call .coded) (length next) (sym (call .number-is) ∙ is-done)
 
-    -- w is what writing the mark of the session after the bytes answers
-    module _ (fits : r .session .rate ≤ rateMost) (after : Decoder)
+    pub decode-asks : decodeNumber (r .session) (length input) (length out / 2) ≡ done
+    decode-asks = sym (call .coded-is) ∙ decode-passed .codes
+
+    module _ (fits : r .session .rate ≤ rateMost) {after : Decoder}
         (after-is : after ≡ decoderAfter (r .session) input) where
       decoder-mark : decoderWriteAnswer after (length next) .number ≡ done
       unfolding decoderAfter
       decoder-mark =
           let s = r .session in
-          let t = taken _ _ coded (length next) (sym k-is ∙ is-done) in
           let e = decode-taken s (length input) (length out / 2) decode-asks in
-          rw after-is (decoder-writes (decoderAfter s input) fits (decoder-after-in s input (e .not-past) (e .inside)) (length next) (t .roomy))
+          let inside = decoder-after-in s input (e .not-past) (e .inside) in
+          rw after-is (decoder-writes (decoderAfter s input) fits inside (length next) (decode-passed .roomy))
 
-      pub decode-done : (left line : List ℕ) (w : DecoderAnswer) → left ≡ sets out 0 (bytes (decodedSamples (r .session) input))
+      pub decode-done : {left line : List ℕ} {w : DecoderAnswer} → left ≡ sets out 0 (bytes (decodedSamples (r .session) input))
           → w ≡ decoderWriteAnswer after (length next) → line ≡ decoderWriteOut after next
-          → (w .number ≡ decodeCallNumber mark input out next) × ((left ≡ decodeCallOut mark input out next) × (line ≡ decodeCallMark mark input out next))
+          → DecodeCallAnswer mark input out next (w .number) left line
       unfolding decodeCallOut decodeCallMark writeAnswer writeOut
-      decode-done left line w left-is w-is line-is =
-          let number = ap (λ (a : DecoderAnswer). a .number) w-is ∙ decoder-mark ∙ sym is-done ∙ decode-number in
-          (number, (rw (← decode-number, is-done, ← restored) left-is, rw (← decode-number, is-done, ← restored, ← after-is) (line-is ∙ rw decoder-mark)))
+      decode-done left-is w-is line-is = (
+        ap (λ (a : DecoderAnswer). a .number) w-is ∙ decoder-mark ∙ sym is-done ∙ decode-number,
+        (
+          rw (← decode-number, is-done, ← call .restored) left-is,
+          rw (← decode-number, is-done, ← call .restored, ← after-is) (line-is ∙ rw decoder-mark),
+        ),
+      )

@@ -38,18 +38,22 @@ rozimaha-pcma-decode-determined κs a z z′ e e′ p q = (one (p .0) (q .0), on
 
 -- both lent buffers are looked at: the output and the new mark
 pub rozimaha-g722-encode-determined
-    : Determined 4 rozimaha-g722-encode-k.ps rozimaha-g722-encode-k.r rozimaha-g722-encode.Post {B = List ℕ × List ℕ} (λ κs e. (now (e .1 .1 .0), now (e .1 .1 .1 .0)))
+    : Determined 4 rozimaha-g722-encode-k.ps rozimaha-g722-encode-k.r rozimaha-g722-encode.Post {B = List ℕ × List ℕ}
+    (λ κs e. (now (e .1 .1 .0), now (e .1 .1 .1 .0)))
 rozimaha-g722-encode-determined κs a z z′ e e′ p q = (one (p .0) (q .0), λ i. (one (p .1 .0) (q .1 .0) i, one (p .1 .1) (q .1 .1) i))
 
 -- both lent buffers are looked at: the output and the new mark
 pub rozimaha-g722-decode-determined
-    : Determined 4 rozimaha-g722-decode-k.ps rozimaha-g722-decode-k.r rozimaha-g722-decode.Post {B = List ℕ × List ℕ} (λ κs e. (now (e .1 .1 .0), now (e .1 .1 .1 .0)))
+    : Determined 4 rozimaha-g722-decode-k.ps rozimaha-g722-decode-k.r rozimaha-g722-decode.Post {B = List ℕ × List ℕ}
+    (λ κs e. (now (e .1 .1 .0), now (e .1 .1 .1 .0)))
 rozimaha-g722-decode-determined κs a z z′ e e′ p q = (one (p .0) (q .0), λ i. (one (p .1 .0) (q .1 .0) i, one (p .1 .1) (q .1 .1) i))
 
 pub rozimaha-g722-begin-encoder-determined
-    : Determined 1 rozimaha-g722-begin-encoder-k.ps rozimaha-g722-begin-encoder-k.r rozimaha-g722-begin-encoder.Post (λ κs e. now (e .1 .1 .0))
+    : Determined 1 rozimaha-g722-begin-encoder-k.ps rozimaha-g722-begin-encoder-k.r rozimaha-g722-begin-encoder.Post
+    (λ κs e. now (e .1 .1 .0))
 rozimaha-g722-begin-encoder-determined κs a z z′ e e′ p q = (one (p .0) (q .0), one (p .1) (q .1))
 
 pub rozimaha-g722-begin-decoder-determined
-    : Determined 1 rozimaha-g722-begin-decoder-k.ps rozimaha-g722-begin-decoder-k.r rozimaha-g722-begin-decoder.Post (λ κs e. now (e .1 .1 .0))
+    : Determined 1 rozimaha-g722-begin-decoder-k.ps rozimaha-g722-begin-decoder-k.r rozimaha-g722-begin-decoder.Post
+    (λ κs e. now (e .1 .1 .0))
 rozimaha-g722-begin-decoder-determined κs a z z′ e e′ p q = (one (p .0) (q .0), one (p .1) (q .1))

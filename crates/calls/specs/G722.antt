@@ -1,4 +1,4 @@
--- What the G.722 calls answer, and what they leave in the two lent buffers (docs/RULES.md, "C calls"): the number first, then the rest by it.
+-- What the G.722 calls answer, and what they leave in the lent buffers (docs/RULES.md, "C calls"): the number first, then the rest by it.
 use mathlib.Core.Bool.{Bool, false, cond, not}
 use mathlib.Core.List.{List}
 use Prim.Native.Nat.{ℕ, _/_, _%_}

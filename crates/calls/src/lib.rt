@@ -8,8 +8,9 @@ ghost use mathlib.Core.Path.{_≡_};
 ghost use Rattle.samples.specs.Lent.{fromBytesNumber, fromBytesOutput, toBytesNumber, toBytesOutput};
 ghost use Rattle.pcmu.specs.Mulaw.{muByte, muValue};
 ghost use Rattle.pcma.specs.Alaw.{aByte, aValue};
-ghost use Rattle.calls.specs.G722.{callNumber, encoderOf, encodeCallNumber, encodeCallOut, encodeCallMark, encoderBeginNumber, encoderBeginMark};
-ghost use Rattle.calls.specs.G722.{decoderOf, decodeCallNumber, decodeCallOut, decodeCallMark, decoderBeginNumber, decoderBeginMark};
+ghost use Rattle.calls.specs.G722.{callNumber, encoderBeginNumber, encoderBeginMark, decoderBeginNumber, decoderBeginMark};
+ghost use Rattle.calls.specs.G722.{encoderOf, encodeCallNumber, encodeCallOut, encodeCallMark};
+ghost use Rattle.calls.specs.G722.{decoderOf, decodeCallNumber, decodeCallOut, decodeCallMark};
 
 #[no_mangle]
 pub extern "C" fn rozimaha_pcmu_encode(input: &[u8], out: &mut [u8]) -> u32
@@ -77,7 +78,12 @@ fn encoder_of(mark: &[u8]) -> EncoderAnswer
 
 // Restores the mark into a fresh encoder, encodes the samples, and writes the new mark.
 #[no_mangle]
-pub extern "C" fn rozimaha_g722_encode(mark: &[u8], input: &[u8], out: &mut [u8], next: &mut [u8]) -> u32
+pub extern "C" fn rozimaha_g722_encode(
+    mark: &[u8],
+    input: &[u8],
+    out: &mut [u8],
+    next: &mut [u8],
+) -> u32
     ensures { λ r. ⌜ r ≡ encodeCallNumber (now (mark .entry)) (now (input .entry)) (now (out .entry)) (now (next .entry)) ⌝ }
     ensures { λ _. ⌜ now (out .exit) ≡ encodeCallOut (now (mark .entry)) (now (input .entry)) (now (out .entry)) (now (next .entry)) ⌝ }
     ensures { λ _. ⌜ now (next .exit) ≡ encodeCallMark (now (mark .entry)) (now (input .entry)) (now (out .entry)) (now (next .entry)) ⌝ }
@@ -102,7 +108,12 @@ fn decoder_of(mark: &[u8]) -> DecoderAnswer
 
 // Restores the mark into a fresh decoder, decodes the bytes, and writes the new mark.
 #[no_mangle]
-pub extern "C" fn rozimaha_g722_decode(mark: &[u8], input: &[u8], out: &mut [u8], next: &mut [u8]) -> u32
+pub extern "C" fn rozimaha_g722_decode(
+    mark: &[u8],
+    input: &[u8],
+    out: &mut [u8],
+    next: &mut [u8],
+) -> u32
     ensures { λ r. ⌜ r ≡ decodeCallNumber (now (mark .entry)) (now (input .entry)) (now (out .entry)) (now (next .entry)) ⌝ }
     ensures { λ _. ⌜ now (out .exit) ≡ decodeCallOut (now (mark .entry)) (now (input .entry)) (now (out .entry)) (now (next .entry)) ⌝ }
     ensures { λ _. ⌜ now (next .exit) ≡ decodeCallMark (now (mark .entry)) (now (input .entry)) (now (out .entry)) (now (next .entry)) ⌝ }

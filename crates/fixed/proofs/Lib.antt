@@ -1,3 +1,4 @@
 pub mod Signed
 pub mod Wide
 pub mod Half
+pub mod Fits

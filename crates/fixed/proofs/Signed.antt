@@ -1,190 +1,25 @@
--- Facts on signed numbers, and the set `zfits`: `search zfits depth 12` proves that an `i32` expression over locals fits, from ranges `In lo hi x`
--- with literal bounds in reach. `le-out`, `le-in`, `add-pn`, `neg-p`, `neg-n` hand linear facts on ℤ to `omega`.
-use mathlib.Core.Path.{_≡_, refl, sym, ap, _∙_, subst}
-use mathlib.Core.Bool.{Bool, true, false, not, cond, false≢true}
-use Prim.Native.Nat.{ℕ, zero, suc, _+_, _-_, _*_, _/_, _^_, _≤_, _<_, max, min}
-use native.Mathlib.Nat.{mul-le-mul, le-trans, lt-of-le-of-lt, lt-of-lt-of-le, div-lt-iff-lt-mul, le-max-left, le-max-right}
+-- Order, size and ranges of whole numbers, and what a clamp does.
+-- `le-out`, `le-in`, `add-pn`, `neg-p` and `neg-n` hand linear facts to `omega`.
+use Prim.Native.Nat.{ℕ, zero, suc, _+_, _-_, _*_, _/_, _^_, _≤_, _<_, max}
+use native.Mathlib.Nat.{le-trans, lt-of-le-of-lt, le-max-left, le-max-right, mul-le-mul}
 use native.Mathlib.Omega.{arith}
-use borrow.Author.Tests.{eq-eqb, ne-eqb, eqb-true}
-use lib.Dec.{T, eqb, leb, ltb, leb→le, le→leb, ltb→lt, nltb→le}
-use lib.Pow.{pow-add, pow-pos, pow-mono}
-use lib.IntN.{ℤ, pos, negsuc, negℤ, natAbs, subℕ, _+ℤ_, _-ℤ_, _*ℤ_, +ℤ-idl}
-use lib.Signed.{mag, ltZ, leZ, shrZ, mag-shr, _≤ℤ_, ≤ℤ-refl, ltZ-yes, ltZ-no, clashℤ}
-use mir.Syntax.{w32}
-use mir.Val.{SFits, toZ, ofZ}
-use mir.Facts.{toZ-ofZ}
-use mir.ValLaws.{sfits-le}
+use mathlib.Core.Bool.{Bool, true, false, not, cond}
+use mathlib.Core.Path.{_≡_, _∙_, refl, sym, ap, subst}
+use lib.Dec.{T, ltb, leb→le, le→leb, ltb→lt, nltb→le}
+use lib.IntN.{ℤ, pos, negsuc, negℤ, natAbs, subℕ, _+ℤ_, _-ℤ_, _*ℤ_}
+use lib.Pow as Pow
+use lib.Signed.{mag, ltZ, leZ, shrZ, _≤ℤ_, ≤ℤ-refl, ltZ-yes, ltZ-no, clashℤ}
 use Rattle.fixed.specs.Number.{In, Is, clampZ}
 
--- -2^k ≤ z < 2^k
-pub record Sz (k : ℕ) (z : ℤ) : Type 0 where
-  pub sz : mag z < 2 ^ k
-
-mag-in : (lo hi z : ℤ) → In lo hi z → mag z ≤ max (mag lo) (mag hi)
-mag-in lo (pos h) (pos n) i = le-trans (leb→le n h (i .high .le)) (le-max-right (mag lo) h)
-mag-in lo (negsuc h) (pos n) i = absurd (i .high .le)
-mag-in (pos l) hi (negsuc n) i = absurd (i .low .le)
-mag-in (negsuc l) hi (negsuc n) i = le-trans (leb→le n l (i .low .le)) (le-max-left l (mag hi))
-
-pub abs-in : (lo hi z : ℤ) → In lo hi z → natAbs z ≤ max (natAbs lo) (natAbs hi)
-abs-in lo (pos h) (pos n) i = le-trans (leb→le n h (i .high .le)) (le-max-right (natAbs lo) h)
-abs-in lo (negsuc h) (pos n) i = absurd (i .high .le)
-abs-in (pos l) hi (negsuc n) i = absurd (i .low .le)
-abs-in (negsuc l) hi (negsuc n) i = le-trans up (le-max-left (suc l) (natAbs hi))
+-- a difference of two naturals is one of two numbers
+sub-cases : (a b : ℕ) (P : ℤ → Type 0) → (a < b → P (negsuc (b - suc a))) → (b ≤ a → P (pos (a - b))) → P (subℕ a b)
+sub-cases a b P f g = go (ltb a b) (λ t. f (ltb→lt a b t)) (λ t. g (nltb→le a b t))
   where
-    up : suc n ≤ suc l
-    up = omega (arith, leb→le n l (i .low .le))
+    go : (c : Bool) → (T c → P (negsuc (b - suc a))) → (T (not c) → P (pos (a - b))) → P (cond c (negsuc (b - suc a)) (pos (a - b)))
+    go true f g = f tt
+    go false f g = g tt
 
-mag-abs : (z : ℤ) → mag z ≤ natAbs z
-mag-abs (pos n) = omega arith
-mag-abs (negsuc n) = omega arith
-
-abs-neg : (n : ℕ) → natAbs (negℤ (pos n)) ≡ n
-abs-neg zero = refl
-abs-neg (suc n) = refl
-
-pub abs-mul : (x y : ℤ) → natAbs (x *ℤ y) ≡ natAbs x * natAbs y
-abs-mul (pos a) (pos b) = refl
-abs-mul (pos a) (negsuc b) = abs-neg (a * suc b)
-abs-mul (negsuc a) (pos b) = abs-neg (suc a * b)
-abs-mul (negsuc a) (negsuc b) = refl
-
-cond-ind : (c : Bool) (x y : ℤ) (P : ℤ → Type 0) → (T c → P x) → (T (not c) → P y) → P (cond c x y)
-cond-ind true x y P f g = f tt
-cond-ind false x y P f g = g tt
-
-abs-sub : (a b : ℕ) → natAbs (subℕ a b) ≤ a + b
-abs-sub a b = cond-ind (ltb a b) (negsuc (b - suc a)) (pos (a - b)) (λ z. natAbs z ≤ a + b)
-    (λ t. let l : a < b = ltb→lt a b t in omega arith) (λ t. omega arith)
-
-pub abs-add : (x y : ℤ) → natAbs (x +ℤ y) ≤ natAbs x + natAbs y
-abs-add (pos a) (pos b) = omega arith
-abs-add (pos a) (negsuc b) = abs-sub a (suc b)
-abs-add (negsuc a) (pos b) = omega (arith, abs-sub b (suc a))
-abs-add (negsuc a) (negsuc b) = omega arith
-
-mag-neg : (z : ℤ) → mag (negℤ z) ≤ suc (mag z)
-mag-neg (pos zero) = omega arith
-mag-neg (pos (suc n)) = omega arith
-mag-neg (negsuc n) = omega arith
-
-mag-sub : (a b m : ℕ) → a < m → b ≤ m → mag (subℕ a b) < m
-mag-sub a b m h k = cond-ind (ltb a b) (negsuc (b - suc a)) (pos (a - b)) (λ z. mag z < m)
-    (λ t. let l : a < b = ltb→lt a b t in omega arith) (λ t. omega arith)
-
-mag-add : (x y : ℤ) (m : ℕ) → mag x < m → mag y < m → mag (x +ℤ y) < 2 * m
-mag-add (pos a) (pos b) m h k = omega arith
-mag-add (pos a) (negsuc b) m h k = let p : mag (subℕ a (suc b)) < m = mag-sub a (suc b) m h k in omega arith
-mag-add (negsuc a) (pos b) m h k = let p : mag (subℕ b (suc a)) < m = mag-sub b (suc a) m k h in omega arith
-mag-add (negsuc a) (negsuc b) m h k = omega arith
-
-dbl : (k : ℕ) → T (ltb 0 k) → 2 * 2 ^ (k - 1) ≡ 2 ^ k
-dbl zero t = absurd t
-dbl (suc k) t = subst (λ (j : ℕ). 2 * 2 ^ j ≡ 2 ^ suc k) less (omega arith)
-  where
-    less : k ≡ suc k - 1
-    less = omega arith
-
--- ---- the rules
-pub sz-in : (k : ℕ) {lo hi z : ℤ} → In lo hi z → T (ltb (max (mag lo) (mag hi)) (2 ^ k)) → Sz k z
-sz-in k {lo} {hi} {z} i t = record { sz = lt-of-le-of-lt (mag-in lo hi z i) (ltb→lt (max (mag lo) (mag hi)) (2 ^ k) t) }
-
-pub sz-up : (k : ℕ) {j : ℕ} {z : ℤ} → Sz j z → T (leb j k) → Sz k z
-sz-up k {j} a t = record { sz = lt-of-lt-of-le (a .sz) (pow-mono (leb→le j k t)) }
-
-pub sz-pos : (k n : ℕ) → T (ltb n (2 ^ k)) → Sz k (pos n)
-sz-pos k n t = record { sz = ltb→lt n (2 ^ k) t }
-
-pub sz-negsuc : (k n : ℕ) → T (ltb n (2 ^ k)) → Sz k (negsuc n)
-sz-negsuc k n t = record { sz = ltb→lt n (2 ^ k) t }
-
-pub sz-add : (k : ℕ) (x y : ℤ) → T (ltb 0 k) → Sz (k - 1) x → Sz (k - 1) y → Sz k (x +ℤ y)
-sz-add k x y t a b = record { sz = subst (λ (m : ℕ). mag (x +ℤ y) < m) (dbl k t) (mag-add x y (2 ^ (k - 1)) (a .sz) (b .sz)) }
-
-pub sz-neg : (k : ℕ) (z : ℤ) → T (ltb 0 k) → Sz (k - 1) z → Sz k (negℤ z)
-sz-neg k z t a = record { sz = subst (λ (m : ℕ). mag (negℤ z) < m) (dbl k t) up }
-  where
-    up : mag (negℤ z) < 2 * 2 ^ (k - 1)
-    up = omega (arith, mag-neg z, a .sz)
-
-pub sz-mul : (k : ℕ) {a b c d x y : ℤ} → In a b x → In c d y → T (ltb (max (natAbs a) (natAbs b) * max (natAbs c) (natAbs d)) (2 ^ k)) → Sz k (x *ℤ y)
-sz-mul k {a} {b} {c} {d} {x} {y} i j t = record { sz = lt-of-le-of-lt (le-trans (mag-abs (x *ℤ y)) (subst (λ (n : ℕ). n ≤ max (natAbs a) (natAbs b) * max (natAbs c) (natAbs d)) (sym (abs-mul x y)) (mul-le-mul (abs-in a b x i) (abs-in c d y j)))) (ltb→lt _ (2 ^ k) t) }
-
-lit-in : (z : ℤ) → In z z z
-lit-in z = record { low = ≤ℤ-refl z; high = ≤ℤ-refl z }
-
-pub sz-mul-lit : (k n : ℕ) {a b x : ℤ} → In a b x → T (ltb (max (natAbs a) (natAbs b) * max n n) (2 ^ k)) → Sz k (x *ℤ pos n)
-sz-mul-lit k n i t = sz-mul k i (lit-in (pos n)) t
-
-mag-shr′ : (z : ℤ) (m : ℕ) → mag (shrZ z m) ≡ mag z / m
-mag-shr′ (pos a) m = refl
-mag-shr′ (negsuc a) m = refl
-
--- by 2 ^ j, j a numeral
-shr-at : (j k : ℕ) (z : ℤ) → Sz (k + j) z → Sz k (shrZ z (2 ^ j))
-shr-at j k z a = record { sz = subst (λ (n : ℕ). n < 2 ^ k) (sym (mag-shr′ z (2 ^ j))) (div-lt-iff-lt-mul (pow-pos j) .1 (subst (λ (n : ℕ). mag z < n) (pow-add 2 k j) (a .sz))) }
-
-pub sz-shr15 : (k : ℕ) (z : ℤ) → Sz (k + 15) z → Sz k (shrZ z 32768)
-sz-shr15 k z a = shr-at 15 k z a
-
-pub sz-shr7 : (k : ℕ) (z : ℤ) → Sz (k + 7) z → Sz k (shrZ z 128)
-sz-shr7 k z a = shr-at 7 k z a
-
-pub sz-shr : (k : ℕ) (z : ℤ) (m : ℕ) → Sz k z → Sz k (shrZ z m)
-sz-shr k z m a = record { sz = lt-of-le-of-lt (mag-shr z m) (a .sz) }
-
-pub sfits-shr : (z : ℤ) (m : ℕ) → SFits w32 z → SFits w32 (shrZ z m)
-sfits-shr z m h = sfits-le (mag-shr z m) h
-
-pub sfits32 : (z : ℤ) → Sz 31 z → SFits w32 z
-sfits32 z a = record { sfits = a .sz }
-
--- ---- tests: what a branch on two signed numbers tells, of the numbers and not of their bits
-pub lt-is : (x y : ℤ) (b : Bool) → SFits w32 x → SFits w32 y → ltZ (toZ w32 (ofZ w32 x)) (toZ w32 (ofZ w32 y)) ≡ b → ltZ x y ≡ b
-lt-is x y b f g e = subst (λ (v : ℤ). ltZ x v ≡ b) (toZ-ofZ {w = w32} g) (subst (λ (v : ℤ). ltZ v (toZ w32 (ofZ w32 y)) ≡ b) (toZ-ofZ {w = w32} f) e)
-
-pub is-false : (b : Bool) → (b ≡ true → ⊥) → b ≡ false
-is-false true h = absurd (h refl)
-is-false false h = refl
-
--- ---- clamps, r a result
-cond-of : (b : Bool) (x y : ℤ) → b ≡ true → x ≡ cond b x y
-cond-of b x y e = subst (λ (t : Bool). x ≡ cond t x y) (sym e) refl
-
-cond-not : (b : Bool) (x y : ℤ) → b ≡ false → y ≡ cond b x y
-cond-not b x y e = subst (λ (t : Bool). y ≡ cond t x y) (sym e) refl
-
-pub clamp-low : (lo hi v : ℤ) → ltZ v lo ≡ true → lo ≡ clampZ lo hi v
-unfolding clampZ
-clamp-low lo hi v e = cond-of (ltZ v lo) lo _ e
-
-pub clamp-high : (lo hi v : ℤ) → ltZ v lo ≡ false → ltZ hi v ≡ true → hi ≡ clampZ lo hi v
-unfolding clampZ
-clamp-high lo hi v e f = cond-of (ltZ hi v) hi v f ∙ cond-not (ltZ v lo) lo _ e
-
-pub clamp-mid : (lo hi v : ℤ) → ltZ v lo ≡ false → ltZ hi v ≡ false → v ≡ clampZ lo hi v
-unfolding clampZ
-clamp-mid lo hi v e f = cond-not (ltZ hi v) hi v f ∙ cond-not (ltZ v lo) lo _ e
-
-pub nlt : (x y : ℤ) → ltZ x y ≡ false → y ≤ℤ x
-nlt x y e = ltZ-no (subst (λ (b : Bool). T (not b)) (sym e) tt)
-
-pub clamp-in : (lo hi v : ℤ) → lo ≤ℤ hi → In lo hi (clampZ lo hi v)
-clamp-in lo hi v h = go (ltZ v lo) (ltZ hi v) refl refl
-  where
-    go : (a b : Bool) → ltZ v lo ≡ a → ltZ hi v ≡ b → In lo hi (clampZ lo hi v)
-    go true b e f = subst (In lo hi) (clamp-low lo hi v e) (record { low = ≤ℤ-refl lo; high = h })
-    go false true e f = subst (In lo hi) (clamp-high lo hi v e f) (record { low = h; high = ≤ℤ-refl hi })
-    go false false e f = subst (In lo hi) (clamp-mid lo hi v e f) (record { low = nlt v lo e; high = nlt hi v f })
-
--- a call's answer, from the equation alone
-pub is-clamp : (lo hi v r : ℤ) → lo ≤ℤ hi → r ≡ clampZ lo hi v → Is lo hi (clampZ lo hi v) r
-is-clamp lo hi v r h e = record { is = e; range = subst (In lo hi) (sym e) (clamp-in lo hi v h) }
-
-pub lit-le : (a b : ℤ) → T (leZ a b) → a ≤ℤ b
-lit-le a b t = record { le = t }
-
--- ---- linear arithmetic on ℤ by `omega`: z is P z - N z
+-- ---- linear arithmetic: z is P z - N z
 abbrev pub P : ℤ → ℕ
 P (pos n) = n
 P (negsuc n) = 0
@@ -206,8 +41,7 @@ le-in (negsuc a) (pos b) h = record { le = tt }
 le-in (negsuc a) (negsuc b) h = record { le = le→leb b a (omega arith) }
 
 sub-pn : (a b : ℕ) → P (subℕ a b) + b ≡ a + N (subℕ a b)
-sub-pn a b = cond-ind (ltb a b) (negsuc (b - suc a)) (pos (a - b)) (λ z. P z + b ≡ a + N z)
-    (λ t. let l : a < b = ltb→lt a b t in omega arith) (λ t. let l : b ≤ a = nltb→le a b t in omega arith)
+sub-pn a b = sub-cases a b (λ z. P z + b ≡ a + N z) (λ l. omega arith) (λ l. omega arith)
 
 pub add-pn : (a b : ℤ) → P (a +ℤ b) + (N a + N b) ≡ (P a + P b) + N (a +ℤ b)
 add-pn (pos a) (pos b) = omega arith
@@ -225,63 +59,176 @@ neg-n (pos zero) = refl
 neg-n (pos (suc n)) = refl
 neg-n (negsuc n) = refl
 
--- ---- ranges, from the goal down: the bounds of the part are computed from those of the whole
+pub ≤-trans : (a b c : ℤ) → a ≤ℤ b → b ≤ℤ c → a ≤ℤ c
+≤-trans a b c h k = le-in a c (omega (arith, le-out a b h, le-out b c k))
+
+-- ---- size
+mag-in : (lo hi z : ℤ) → In lo hi z → mag z ≤ max (mag lo) (mag hi)
+mag-in lo (pos h) (pos n) i = le-trans (leb→le n h (i .high .le)) (le-max-right (mag lo) h)
+mag-in lo (negsuc h) (pos n) i = absurd (i .high .le)
+mag-in (pos l) hi (negsuc n) i = absurd (i .low .le)
+mag-in (negsuc l) hi (negsuc n) i = le-trans (leb→le n l (i .low .le)) (le-max-left l (mag hi))
+
+pub abs-in : (lo hi z : ℤ) → In lo hi z → natAbs z ≤ max (natAbs lo) (natAbs hi)
+abs-in lo (pos h) (pos n) i = le-trans (leb→le n h (i .high .le)) (le-max-right (natAbs lo) h)
+abs-in lo (negsuc h) (pos n) i = absurd (i .high .le)
+abs-in (pos l) hi (negsuc n) i = absurd (i .low .le)
+abs-in (negsuc l) hi (negsuc n) i = le-trans up (le-max-left (suc l) (natAbs hi))
+  where
+    up : suc n ≤ suc l
+    up = omega (arith, leb→le n l (i .low .le))
+
+abs-neg : (n : ℕ) → natAbs (negℤ (pos n)) ≡ n
+abs-neg zero = refl
+abs-neg (suc n) = refl
+
+pub abs-mul : (x y : ℤ) → natAbs (x *ℤ y) ≡ natAbs x * natAbs y
+abs-mul (pos a) (pos b) = refl
+abs-mul (pos a) (negsuc b) = abs-neg (a * suc b)
+abs-mul (negsuc a) (pos b) = abs-neg (suc a * b)
+abs-mul (negsuc a) (negsuc b) = refl
+
+abs-sub : (a b : ℕ) → natAbs (subℕ a b) ≤ a + b
+abs-sub a b = sub-cases a b (λ z. natAbs z ≤ a + b) (λ l. omega arith) (λ l. omega arith)
+
+pub abs-add : (x y : ℤ) → natAbs (x +ℤ y) ≤ natAbs x + natAbs y
+abs-add (pos a) (pos b) = omega arith
+abs-add (pos a) (negsuc b) = abs-sub a (suc b)
+abs-add (negsuc a) (pos b) = omega (arith, abs-sub b (suc a))
+abs-add (negsuc a) (negsuc b) = omega arith
+
+mag-neg : (z : ℤ) → mag (negℤ z) ≤ suc (mag z)
+mag-neg (pos zero) = omega arith
+mag-neg (pos (suc n)) = omega arith
+mag-neg (negsuc n) = omega arith
+
+mag-sub : (a b m : ℕ) → a < m → b ≤ m → mag (subℕ a b) < m
+mag-sub a b m h k = sub-cases a b (λ z. mag z < m) (λ l. omega arith) (λ l. omega arith)
+
+pub mag-add : (x y : ℤ) (m : ℕ) → mag x < m → mag y < m → mag (x +ℤ y) < 2 * m
+mag-add (pos a) (pos b) m h k = omega arith
+mag-add (pos a) (negsuc b) m h k = omega (arith, mag-sub a (suc b) m h k)
+mag-add (negsuc a) (pos b) m h k = omega (arith, mag-sub b (suc a) m k h)
+mag-add (negsuc a) (negsuc b) m h k = omega arith
+
+pub mag-turn : (z : ℤ) (m : ℕ) → mag z < m → mag (negℤ z) < 2 * m
+mag-turn z m h = omega (arith, mag-neg z)
+
+mag-abs : (z : ℤ) → mag z ≤ natAbs z
+mag-abs (pos n) = omega arith
+mag-abs (negsuc n) = omega arith
+
+-- -2^k ≤ z < 2^k
+pub record Sz (k : ℕ) (z : ℤ) : Type 0 where
+  pub sz : mag z < 2 ^ k
+
+pub sz-in : (k : ℕ) {lo hi z : ℤ} → In lo hi z → T (ltb (max (mag lo) (mag hi)) (2 ^ k)) → Sz k z
+sz-in k {lo} {hi} {z} i t = record { sz = lt-of-le-of-lt (mag-in lo hi z i) (ltb→lt (max (mag lo) (mag hi)) (2 ^ k) t) }
+
+-- ---- ranges
+pub in-add : {a b c d x y : ℤ} → In a b x → In c d y → In (a +ℤ c) (b +ℤ d) (x +ℤ y)
+in-add {a} {b} {c} {d} {x} {y} i j = record {
+  low = le-in (a +ℤ c) (x +ℤ y) (omega (arith, add-pn a c, add-pn x y, le-out a x (i .low), le-out c y (j .low)));
+  high = le-in (x +ℤ y) (b +ℤ d) (omega (arith, add-pn b d, add-pn x y, le-out x b (i .high), le-out y d (j .high)));
+}
+
+pub in-neg : {a b x : ℤ} → In a b x → In (negℤ b) (negℤ a) (negℤ x)
+in-neg {a} {b} {x} i = record {
+  low = le-in (negℤ b) (negℤ x) (omega (arith, neg-p b, neg-n b, neg-p x, neg-n x, le-out x b (i .high)));
+  high = le-in (negℤ x) (negℤ a) (omega (arith, neg-p a, neg-n a, neg-p x, neg-n x, le-out a x (i .low)));
+}
+
+shr-mono : (x y : ℤ) (k : ℕ) → x ≤ℤ y → shrZ x (2 ^ k) ≤ℤ shrZ y (2 ^ k)
+shr-mono (pos a) (pos b) k h = record { le = le→leb (a / 2 ^ k) (b / 2 ^ k) (Pow.shr-mono k (leb→le a b (h .le))) }
+shr-mono (pos a) (negsuc b) k h = absurd (h .le)
+shr-mono (negsuc a) (pos b) k h = record { le = tt }
+shr-mono (negsuc a) (negsuc b) k h = record { le = le→leb (b / 2 ^ k) (a / 2 ^ k) (Pow.shr-mono k (leb→le b a (h .le))) }
+
+pub in-shr : {a b x : ℤ} (k : ℕ) → In a b x → In (shrZ a (2 ^ k)) (shrZ b (2 ^ k)) (shrZ x (2 ^ k))
+in-shr {a} {b} {x} k i = record { low = shr-mono a x k (i .low); high = shr-mono x b k (i .high) }
+
+pub in-abs : (z : ℤ) (n : ℕ) → natAbs z ≤ n → In (negℤ (pos n)) (pos n) z
+in-abs (pos a) n h = record {
+  low = le-in _ (pos a) (omega (arith, neg-p (pos n), neg-n (pos n)));
+  high = le-in (pos a) (pos n) (omega arith);
+}
+in-abs (negsuc a) n h = record {
+  low = le-in _ (negsuc a) (omega (arith, neg-p (pos n), neg-n (pos n)));
+  high = record { le = tt };
+}
+
+-- the greatest magnitude in a .. b
+abbrev pub top : ℤ → ℤ → ℕ
+top a b = max (natAbs a) (natAbs b)
+
+product-most : {a b c d x y : ℤ} → In a b x → In c d y → natAbs (x *ℤ y) ≤ top a b * top c d
+product-most {a} {b} {c} {d} {x} {y} i j = rw (abs-mul x y) (mul-le-mul (abs-in a b x i) (abs-in c d y j))
+
+pub in-mul : {a b c d x y : ℤ} → In a b x → In c d y → In (negℤ (pos (top a b * top c d))) (pos (top a b * top c d)) (x *ℤ y)
+in-mul {a} {b} {c} {d} {x} {y} i j = in-abs (x *ℤ y) (top a b * top c d) (product-most i j)
+
+pub mag-mul : {a b c d x y : ℤ} → In a b x → In c d y → mag (x *ℤ y) ≤ top a b * top c d
+mag-mul {x = x} {y = y} i j = le-trans (mag-abs (x *ℤ y)) (product-most i j)
+
+pub within : {a b z : ℤ} (c d : ℤ) → In a b z → T (leZ c a) → T (leZ b d) → In c d z
+within {a} {b} {z} c d i s t = record {
+  low = ≤-trans c a z (record { le = s }) (i .low);
+  high = ≤-trans z b d (i .high) (record { le = t });
+}
+
+-- a number less another, from the goal down
 pub in-from : (n : ℕ) (a b z : ℤ) → In (pos n -ℤ b) (pos n -ℤ a) z → In a b (pos n -ℤ z)
 in-from n a b z i = record {
-  low = le-in a (pos n -ℤ z) (omega (arith, le-out z (pos n -ℤ a) (i .high), add-pn (pos n) (negℤ a), add-pn (pos n) (negℤ z), neg-p a, neg-n a, neg-p z, neg-n z));
-  high = le-in (pos n -ℤ z) b (omega (arith, le-out (pos n -ℤ b) z (i .low), add-pn (pos n) (negℤ b), add-pn (pos n) (negℤ z), neg-p b, neg-n b, neg-p z, neg-n z));
+  low = le-in a (pos n -ℤ z)
+      (omega (arith, le-out z (pos n -ℤ a) (i .high), add-pn (pos n) (negℤ a), add-pn (pos n) (negℤ z), neg-p a, neg-n a, neg-p z, neg-n z));
+  high = le-in (pos n -ℤ z) b
+      (omega (arith, le-out (pos n -ℤ b) z (i .low), add-pn (pos n) (negℤ b), add-pn (pos n) (negℤ z), neg-p b, neg-n b, neg-p z, neg-n z));
 }
 
 pub neg-le : (a b z : ℤ) → In a b z → T (leZ (pos 0) a) → negℤ z ≤ℤ z
 neg-le a b z i t = le-in (negℤ z) z (omega (arith, neg-p z, neg-n z, le-out a z (i .low), le-out (pos 0) a (record { le = t })))
 
+-- ---- tests and clamps
+pub nlt : (x y : ℤ) → ltZ x y ≡ false → y ≤ℤ x
+nlt x y e = ltZ-no (subst (λ (b : Bool). T (not b)) (sym e) tt)
+
+is-false : (b : Bool) → (b ≡ true → ⊥) → b ≡ false
+is-false true h = absurd (h refl)
+is-false false h = refl
+
 pub nlt-of : (x y : ℤ) → y ≤ℤ x → ltZ x y ≡ false
 nlt-of x y h = is-false (ltZ x y) (λ e. clashℤ (ltZ-yes (subst T (sym e) tt)) h)
 
-pub ≤-trans : (a b c : ℤ) → a ≤ℤ b → b ≤ℤ c → a ≤ℤ c
-≤-trans a b c h k = le-in a c (omega (arith, le-out a b h, le-out b c k))
+-- the arm that a definition takes
+pub taken {ℓ} : {A : Type ℓ} {b t : Bool} (x y : A) → b ≡ t → cond t x y ≡ cond b x y
+taken {A = A} x y e = ap (λ (v : Bool). cond {A = A} v x y) (sym e)
+
+pub clamp-low : (lo hi v : ℤ) → ltZ v lo ≡ true → lo ≡ clampZ lo hi v
+unfolding clampZ
+clamp-low lo hi v e = taken lo _ e
+
+pub clamp-high : (lo hi v : ℤ) → ltZ v lo ≡ false → ltZ hi v ≡ true → hi ≡ clampZ lo hi v
+unfolding clampZ
+clamp-high lo hi v e f = taken hi v f ∙ taken lo _ e
+
+pub clamp-mid : (lo hi v : ℤ) → ltZ v lo ≡ false → ltZ hi v ≡ false → v ≡ clampZ lo hi v
+unfolding clampZ
+clamp-mid lo hi v e f = taken hi v f ∙ taken lo _ e
+
+pub clamp-in : (lo hi v : ℤ) → lo ≤ℤ hi → In lo hi (clampZ lo hi v)
+clamp-in lo hi v h = go (ltZ v lo) (ltZ hi v) refl refl
+  where
+    go : (a b : Bool) → ltZ v lo ≡ a → ltZ hi v ≡ b → In lo hi (clampZ lo hi v)
+    go true b e f = subst (In lo hi) (clamp-low lo hi v e) (record { low = ≤ℤ-refl lo; high = h })
+    go false true e f = subst (In lo hi) (clamp-high lo hi v e f) (record { low = h; high = ≤ℤ-refl hi })
+    go false false e f = subst (In lo hi) (clamp-mid lo hi v e f) (record { low = nlt v lo e; high = nlt hi v f })
+
+pub is-clamp : (lo hi v r : ℤ) → lo ≤ℤ hi → r ≡ clampZ lo hi v → Is lo hi (clampZ lo hi v) r
+is-clamp lo hi v r h e = record { is = e; range = subst (In lo hi) (sym e) (clamp-in lo hi v h) }
 
 -- what lies in range already is not changed
 pub clamp-id : (lo hi v : ℤ) → In lo hi v → v ≡ clampZ lo hi v
 clamp-id lo hi v i = clamp-mid lo hi v (nlt-of v lo (i .low)) (nlt-of hi v (i .high))
 
 pub in-clamp : (lo hi a b v : ℤ) → T (leZ lo a) → T (leZ b hi) → In a b v → In a b (clampZ lo hi v)
-in-clamp lo hi a b v s t i = subst (In a b) (clamp-id lo hi v (record { low = ≤-trans lo a v (record { le = s }) (i .low); high = ≤-trans v b hi (i .high) (record { le = t }) })) i
-
-pub in-lit : (a b z : ℤ) → T (leZ a z) → T (leZ z b) → In a b z
-in-lit a b z s t = record { low = record { le = s }; high = record { le = t } }
-
--- a call's answer: the equation, and the range of the equal number
-pub is-in : (lo hi v r : ℤ) → r ≡ v → In lo hi v → Is lo hi v r
-is-in lo hi v r e i = record { is = e; range = subst (In lo hi) (sym e) i }
-
--- ---- the same through a local: a signed local holds bits, and what is read from it is `toZ w32 (ofZ w32 z)`
-sz-min : (k : ℕ) (z : ℤ) → Sz (min k 31) z → Sz k z × SFits w32 z
-sz-min k z a = (record { sz = lt-of-lt-of-le (a .sz) (pow-mono {j = k} (omega arith)) }, record { sfits = lt-of-lt-of-le (a .sz) (pow-mono {j = 31} (omega arith)) })
-
-pub sz-rd : (k : ℕ) (z : ℤ) → Sz (min k 31) z → Sz k (toZ w32 (ofZ w32 z))
-sz-rd k z a = subst (Sz k) (sym (toZ-ofZ {w = w32} (sz-min k z a .1))) (sz-min k z a .0)
-
-in-fits : (a b z : ℤ) → In a b z → T (ltb (max (mag a) (mag b)) (2 ^ 31)) → SFits w32 z
-in-fits a b z i t = sfits32 z (sz-in 31 i t)
-
-pub sz-mul-rd : (k : ℕ) {a b c d x y : ℤ} → In a b x → In c d y → T (ltb (max (mag a) (mag b)) (2 ^ 31)) → T (ltb (max (mag c) (mag d)) (2 ^ 31)) → T (ltb (max (natAbs a) (natAbs b) * max (natAbs c) (natAbs d)) (2 ^ k)) → Sz k (toZ w32 (ofZ w32 x) *ℤ toZ w32 (ofZ w32 y))
-sz-mul-rd k {a} {b} {c} {d} {x} {y} i j s t u = subst (λ (v : ℤ). Sz k (v *ℤ toZ w32 (ofZ w32 y))) (sym (toZ-ofZ {w = w32} (in-fits a b x i s))) (subst (λ (v : ℤ). Sz k (x *ℤ v)) (sym (toZ-ofZ {w = w32} (in-fits c d y j t))) (sz-mul k i j u))
-
-pub sz-mul-lit-rd : (k n : ℕ) {a b x : ℤ} → In a b x → T (ltb (max (mag a) (mag b)) (2 ^ 31)) → T (ltb (max (natAbs a) (natAbs b) * max n n) (2 ^ k)) → Sz k (toZ w32 (ofZ w32 x) *ℤ pos n)
-sz-mul-lit-rd k n {a} {b} {x} i s u = subst (λ (v : ℤ). Sz k (v *ℤ pos n)) (sym (toZ-ofZ {w = w32} (in-fits a b x i s))) (sz-mul-lit k n i u)
-
-pub neg-le-rd : (z : ℤ) → negℤ z ≤ℤ z → SFits w32 z → SFits w32 (pos 0 +ℤ negℤ (toZ w32 (ofZ w32 z))) → toZ w32 (ofZ w32 (pos 0 +ℤ negℤ (toZ w32 (ofZ w32 z)))) ≤ℤ toZ w32 (ofZ w32 z)
-neg-le-rd z h f g = rw (toZ-ofZ {w = w32} g, toZ-ofZ {w = w32} f, +ℤ-idl) h
-
-pub sz-is : (k : ℕ) {lo hi v r : ℤ} → Is lo hi v r → T (ltb (max (mag lo) (mag hi)) (2 ^ k)) → Sz k r
-sz-is k a t = sz-in k (a .range) t
-
--- no rewriting: SFits of an expression over locals, from the ranges of the locals
-pub ruleset zfits = (tt, sfits32, sfits-shr, sz-rd, sz-shr15, sz-shr7, sz-shr, sz-mul-rd, sz-mul-lit-rd, sz-mul, sz-mul-lit, sz-neg, sz-add, sz-negsuc, sz-pos, sz-in, sz-up, sz-is, lit-le)
-
--- what is read from a local that holds m is m
-pub eq-rd : (m z : ℤ) → SFits w32 m → m ≡ z → toZ w32 (ofZ w32 m) ≡ z
-eq-rd m z f e = toZ-ofZ {w = w32} f ∙ e
-
-pub ruleset ztests = (lt-is, clamp-low, clamp-high, clamp-mid, is-clamp)
+in-clamp lo hi a b v s t i = subst (In a b) (clamp-id lo hi v (within lo hi i s t)) i

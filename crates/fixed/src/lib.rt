@@ -1,6 +1,6 @@
 // Signed fixed-point numbers: what the blocks of G.722 do with samples and coefficients of 16 bits, each operation once.
 ghost use mathlib.Core.Path.{_≡_};
-ghost use lib.IntN.{ℤ, pos, _+ℤ_, _*ℤ_};
+ghost use lib.IntN.{pos, _+ℤ_, _*ℤ_};
 ghost use lib.Signed.{_≤ℤ_, shrZ};
 ghost use Rattle.fixed.specs.Number.{minus, In, Is, clampZ, sat, signedBy, tapped};
 

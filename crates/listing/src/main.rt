@@ -92,7 +92,10 @@ fn list_some(input: &mut [u8], text: &mut [u8], before: Decoder) -> Listed
     let listed = list_bytes(&input[..fit], text, before);
     let session = listed.session;
     if fit < n {
-        io::write_all(STDERR_FILENO, b"stopped after 2147483647 bytes: a position is at most 4294967295\n");
+        io::write_all(
+            STDERR_FILENO,
+            b"stopped after 2147483647 bytes: a position is at most 4294967295\n",
+        );
     }
     Listed {
         session,

@@ -6,16 +6,14 @@ use lib.ListN.{length, drop}
 use lib.Seq.{take-at, drop-at, drop-drop}
 use Rattle.band.specs.declared.Band.{Band}
 use Rattle.band.specs.declared.Filters.{Filters}
-use Rattle.band.specs.Bounds.{bandNumbers}
-use Rattle.mark.specs.Numbers.{filtersNumbers, bandOf, filtersOf}
+use Rattle.band.specs.Bounds.{bandNumbers, bandOf}
+use Rattle.mark.specs.Numbers.{filtersNumbers, filtersOf}
 
 -- whatever follows a band's numbers
 band-before : (b : Band) (more : List ℤ) → bandOf (bandNumbers b ++ more) ≡ b
-unfolding bandOf
 band-before b more = refl
 
 band-alone : (b : Band) → bandOf (bandNumbers b) ≡ b
-unfolding bandOf
 band-alone b = refl
 
 pub filters-back : (f : Filters) → length (f .x) ≡ 24 → filtersOf (filtersNumbers f) ≡ f

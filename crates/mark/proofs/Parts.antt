@@ -9,11 +9,11 @@ use lib.ListN.{length, take, drop, getD, set, length-drop, length-append}
 use lib.Seq.{sets, drop-cons, drop-drop}
 use Rattle.band.specs.declared.Band.{Band}
 use Rattle.band.specs.declared.Filters.{Filters}
-use Rattle.band.specs.Bounds.{allWords, bandNumbers, filtersInBounds}
+use Rattle.band.specs.Bounds.{allWords, bandNumbers, filtersInBounds, bandOf}
 use Rattle.band.proofs.Boxes.{left, right}
 use Rattle.g722.specs.Session.{sessionInBounds}
 use Rattle.text.proofs.Buffer.{sets-append, sets-all}
-use Rattle.mark.specs.Numbers.{bandOf, filtersOf}
+use Rattle.mark.specs.Numbers.{filtersOf}
 use Rattle.mark.specs.Answer.{numberCount}
 use Rattle.mark.proofs.Copies.{part}
 use Rattle.mark.proofs.Inside.{inside}
@@ -45,7 +45,6 @@ from-is l (suc k) i h =
     ∙ sym (ap (take (suc k)) (drop-cons l i (pos 0) (omega arith)))
 
 numbers-of-band : (l : List ℤ) → 23 ≤ length l → bandNumbers (bandOf l) ≡ take 23 l
-unfolding bandOf
 numbers-of-band l h = from-is l 23 0 h
 
 -- w says whether the n numbers from `at` on are words, and if they are, they are `out`
@@ -58,7 +57,6 @@ BandWords vs at w b = (w ≡ allWords (bandNumbers (bandOf (drop at vs)))) × (w
 
 pub band-words : (vs : List ℤ) (at : ℕ) (w : Bool) (n : List ℤ) (b : Band) → at + 23 ≤ length vs
     → Words vs at 23 w n → b ≡ bandOf n → BandWords vs at w b
-unfolding bandOf
 band-words vs at w n b room r e =
     let numbers = sym (numbers-of-band (drop at vs) (omega (arith, length-drop at vs))) in
     (r .0 ∙ ap allWords numbers, λ t. e ∙ ap bandOf (r .1 t ∙ numbers))

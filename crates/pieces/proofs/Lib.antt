@@ -1,2 +1,3 @@
 pub mod Lists
-pub mod Loops
+pub mod Encodes
+pub mod Decodes

@@ -5,12 +5,12 @@ use mathlib.Core.Path.{_≡_, refl, sym, ap, _∙_}
 use Prim.Native.Nat.{ℕ, zero, suc, _+_, _*_, _-_, _%_, _≤_, _<_}
 use native.Mathlib.Omega.{arith}
 use lib.IntN.{ℤ}
-use lib.ListN.{length, getD, take, drop, set, drop-of-length-le, length-drop}
+use lib.ListN.{length, getD, take, drop, set, drop-of-length-le, length-drop, take-append-drop}
 use lib.Seq.{sets, sets-eq, take-all}
-use borrow.Rule.Slice.PartMut.{midOf, putMid}
+use borrow.Rule.Slice.PartMut.{midOf, putMid, post-is}
 use mir.Syntax.{w16}
 use mir.Facts.{sfits-toZ}
-use Rattle.samples.specs.Bytes.{sampleOf, samples, bitsOf, bytes}
+use Rattle.samples.specs.Bytes.{sampleOf, samples, bytes}
 use Rattle.fixed.proofs.Wide.{in16-of}
 use Rattle.band.specs.Bounds.{allWords}
 use Rattle.band.proofs.Boxes.{no-words, more-words, head-word, tail-words}
@@ -51,6 +51,14 @@ module _ {A : Type 0} (o : ℕ) (l : List A) where
       let none = drop-of-length-le (drop o l) {i = length l - o} (simp length-drop (omega arith)) in
       rw (part-all, none, append-nil) (sets-drop o l vs h)
 
+-- a list from its place i on is a part up to the place e and what follows it
+pub apart : {A : Type 0} (l : List A) (i e : ℕ) → i ≤ e → drop i l ≡ midOf i (e - i) l ++ drop e l
+apart {A} l i e h = sym (take-append-drop (e - i) (drop i l)) ∙ ap (λ (r : List A). midOf i (e - i) l ++ r) (post-is i e l h)
+
+pub no-items : {A : Type 0} {l : List A} → length l ≡ 0 → l ≡ []
+no-items {l = []} e = refl
+no-items {l = x ∷ l} e = absurd (omega arith)
+
 -- ---- samples and bytes
 
 pub samples-cut : (a b : List ℕ) → length a % 2 ≡ 0 → samples (a ++ b) ≡ samples a ++ samples b
@@ -71,7 +79,8 @@ samples-words [] h = no-words
 samples-words (lo ∷ []) h = no-words
 samples-words (lo ∷ (hi ∷ bs)) h =
     let small : lo + 256 * hi < 65536 = omega (arith, h 0, h 1) in
-    more-words (sampleOf lo hi) (samples bs) (in16-of _ (sfits-toZ {w = w16} (record { fits = small }))) (samples-words bs (λ k. h (suc (suc k))))
+    let word = in16-of (sampleOf lo hi) (sfits-toZ {w = w16} (record { fits = small })) in
+    more-words (sampleOf lo hi) (samples bs) word (samples-words bs (λ k. h (suc (suc k))))
 
 pub words-apart : (a b : List ℤ) → allWords (a ++ b) ≡ true → (allWords a ≡ true) × (allWords b ≡ true)
 words-apart [] b w = (no-words, w)

@@ -152,12 +152,24 @@ fn run_begin(line: &[u8], mark: &mut [u8], before: Tally) -> Tally {
 }
 
 // Makes the call that the line names, over a cleared output; `input` is lent to work in.
-fn answered(line: &[u8], mark: &[u8], input: &mut [u8], out: &mut [u8], new_mark: &mut [u8]) -> u32 {
+fn answered(
+    line: &[u8],
+    mark: &[u8],
+    input: &mut [u8],
+    out: &mut [u8],
+    new_mark: &mut [u8],
+) -> u32 {
     let n = words::bytes(words::word(line, 1), input);
     let room = words::least(words::number(words::word(line, 2)), out.len());
     clear(out);
     clear(new_mark);
-    call_coder(words::word(line, 0), mark, &input[..n], &mut out[..room], new_mark)
+    call_coder(
+        words::word(line, 0),
+        mark,
+        &input[..n],
+        &mut out[..room],
+        new_mark,
+    )
 }
 
 // Codes an input: the room, and what is wanted: the number, the output, and the mark where it is told.
@@ -172,7 +184,10 @@ fn run_code(line: &[u8], mark: &mut [u8], before: Tally) -> Tally {
     let number_is_right = number == words::number32(words::word(line, 3));
     let output_is_right = as_wanted(words::word(line, 4), out, &mut scratch);
     let mark_is_right = mark_as_wanted(words::word(line, 5), new_mark);
-    let digest = digest_of(new_mark, digest_of(out, taken_in(before.digest, number as u64)));
+    let digest = digest_of(
+        new_mark,
+        digest_of(out, taken_in(before.digest, number as u64)),
+    );
     words::copy(new_mark, mark);
     let ok = number_is_right & output_is_right & mark_is_right;
     counted(ok, digest, line_length(mark), before)

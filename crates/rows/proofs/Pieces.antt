@@ -6,17 +6,17 @@ use Prim.Native.Nat.{ℕ, _+_, _*_, _^_, _≤_}
 use native.Mathlib.Omega.{arith}
 use lib.Dec.{eqb}
 use lib.IntN.{ℤ}
-use lib.ListN.{length, take, drop, length-append, length-take}
+use lib.ListN.{length, take, drop, length-append}
 use lib.Seq.{sets, sets-eq, length-sets, length-take-le, take-append-le, take-append-seam}
-use borrow.Author.Tests.{eqb-true, eq-eqb, ne-eqb}
+use borrow.Author.Tests.{eqb-true, ne-eqb}
 use Rattle.answers.specs.Numbers.{done}
 use Rattle.g722.specs.declared.Decoder.{Decoder}
 use Rattle.g722.specs.declared.DecoderAnswer.{DecoderAnswer}
 use Rattle.g722.specs.Rates.{decodeRoom, decoderMoves}
 use Rattle.g722.specs.Decoding.{decoderReply, decoderAfter, decodedSamples, decodeNumber, decodeAnswer, decodeOut}
-use Rattle.g722.proofs.Numbers.{DecodeTaken, decode-taken, decode-done}
+use Rattle.g722.proofs.Numbers.{decode-taken, decode-done}
 use Rattle.g722.proofs.Cut.{decoded-length}
-use Rattle.rows.specs.Text.{rowsText, rowMost}
+use Rattle.rows.specs.Text.{rowMost}
 use Rattle.rows.specs.Listing.{rowsFor, rowsOf, listNumber, listAnswer, listOut}
 
 -- a list stored at the front of a longer one stands there
@@ -26,21 +26,24 @@ stored-front l m vs h =
     ∙ ap (take (length vs)) (sets-eq vs l 0 (omega arith))
     ∙ take-append-seam vs (drop (0 + length vs) l)
 
+-- the number of an answer that is the full one or not, by its number
+number-by : (k : ℕ) (t : Bool) (full other : DecoderAnswer) → eqb k done ≡ t → full .number ≡ done → other .number ≡ k → cond t full other .number ≡ k
+number-by k true full other e f o = f ∙ sym (eqb-true k done e)
+number-by k false full other e f o = o
+
 module _ (s : Decoder) (bs : List ℕ) where
   answer-number : (room : ℕ) → decodeAnswer s bs room .number ≡ decodeNumber s (length bs) room
   unfolding decodeAnswer
-  answer-number room = go (decodeNumber s (length bs) room) (eqb (decodeNumber s (length bs) room) done) refl
-    where
-      go : (k : ℕ) (t : Bool) → eqb k done ≡ t → cond t (decoderReply done (decodeRoom (s .rate) (length bs)) (decoderAfter s bs)) (decoderReply k 0 s) .number ≡ k
-      go k true e = sym (eqb-true k done e)
-      go k false e = refl
+  answer-number room = number-by (decodeNumber s (length bs) room) _ _ _ refl refl refl
 
-  pub list-refused : (out : List ℕ) (room : ℕ) (r : DecoderAnswer) → room ≡ rowsFor (length out) → r ≡ decodeAnswer s bs room → (r .number ≡ done → ⊥)
+  pub list-refused : (out : List ℕ) (room : ℕ) (r : DecoderAnswer)
+      → room ≡ rowsFor (length out) → r ≡ decodeAnswer s bs room → (r .number ≡ done → ⊥)
       → (r ≡ listAnswer s bs (length out)) × ((out ≡ listOut s bs out) × (r .count ≤ length out))
   unfolding decodeAnswer listAnswer listOut
   list-refused out room r k e z =
-      let n : decodeNumber s (length bs) (rowsFor (length out)) ≡ done → ⊥ = λ d. z (ap (λ (x : DecoderAnswer). x .number) e ∙ answer-number room ∙ rw k d) in
-      let a : r ≡ decoderReply (decodeNumber s (length bs) (rowsFor (length out))) 0 s = rw (k, ne-eqb _ _ n) at e in
+      let number = ap (λ (x : DecoderAnswer). x .number) e ∙ answer-number room in
+      let n : listNumber s (length bs) (length out) ≡ done → ⊥ = λ d. z (number ∙ rw k d) in
+      let a : r ≡ decoderReply (listNumber s (length bs) (length out)) 0 s = rw (k, ne-eqb _ _ n) at e in
       (rw (ne-eqb _ _ n) a, (rw (ne-eqb _ _ n), rw a (omega arith)))
 
   -- decoding was done into the first places of `all`
@@ -74,7 +77,8 @@ module _ (s : Decoder) (bs : List ℕ) where
         roomy = omega (arith, few, long, e);
       }
 
-  pub list-done : (out q : List ℕ) (n : ℕ) → listNumber s (length bs) (length out) ≡ done → n ≡ length (rowsOf s bs) → q ≡ sets out 0 (rowsOf s bs)
+  pub list-done : (out q : List ℕ) (n : ℕ)
+      → listNumber s (length bs) (length out) ≡ done → n ≡ length (rowsOf s bs) → q ≡ sets out 0 (rowsOf s bs)
       → (decoderReply done n (decoderAfter s bs) ≡ listAnswer s bs (length out)) × (q ≡ listOut s bs out)
   unfolding listAnswer listOut
   list-done out q n e c w = (rw (e, c), rw e w)

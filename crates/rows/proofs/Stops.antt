@@ -1,18 +1,16 @@
 -- Where to stop: the bytes that fit are the most that decoding takes; and as long as bytes fit, no piece is refused.
-use mathlib.Core.Path.{_≡_, refl, ap, _∙_}
-use mathlib.Core.Bool.{true, false}
+use mathlib.Core.Path.{_≡_, refl}
 use mathlib.Core.List.{List, []}
 use Prim.Native.Nat.{ℕ, _+_, _*_, _≤_}
 use native.Mathlib.Omega.{arith}
 use lib.ListN.{length}
 use Rattle.answers.specs.Numbers.{done}
 use Rattle.g722.specs.declared.Decoder.{Decoder}
-use Rattle.g722.specs.Rates.{resamples, decodeRoom, decoderMoves}
+use Rattle.g722.specs.Rates.{decodeRoom, decoderMoves}
 use Rattle.g722.specs.Runs.{filtersAfterBytes}
-use Rattle.g722.specs.Session.{positionMost}
-use Rattle.g722.specs.Decoding.{decoderBegun, decoderInBounds, decoderAfter, decodeNumber}
+use Rattle.g722.specs.Decoding.{decoderBegun, decoderAfter, decodeNumber}
 use Rattle.g722.proofs.Numbers.{decode-taken, taken-decodes}
-use Rattle.g722.proofs.Sound.{position-in, decoder-begun-in, decoder-after-in}
+use Rattle.g722.proofs.Sound.{decoder-begun-in, decoder-after-in}
 use Rattle.rows.specs.Listing.{listNumber, fittingBytes, Ready, zeroStart}
 
 -- at 16000 each byte moves the position by two

@@ -1,7 +1,7 @@
 -- The laws of the rows as text: how long they are, how a row is stored field by field, and rows taken apart.
-use mathlib.Core.Path.{_≡_, refl, sym, ap, _∙_}
+use mathlib.Core.Path.{_≡_, sym, ap, _∙_}
 use mathlib.Core.List.{List, [], _∷_, _++_, append-assoc}
-use Prim.Native.Nat.{ℕ, suc, _+_, _*_, _^_, _≤_, _<_}
+use Prim.Native.Nat.{ℕ, suc, _+_, _^_, _≤_, _<_}
 use native.Mathlib.Nat.{add-zero}
 use native.Mathlib.Numerals.{add-one}
 use native.Mathlib.Omega.{arith}
@@ -55,7 +55,8 @@ pub rows-at : (first : ℕ) (vs : List ℤ) (i : ℕ) → i < length vs
     → rowsText (first + i) (drop i vs) ≡ rowText (first + i) (getD vs i (pos 0)) ++ rowsText (first + (i + 1)) (drop (i + 1) vs)
 unfolding rowsText
 rows-at first vs i h =
-    rw (drop-cons vs i (pos 0) h, add-one i) (ap (λ (k : ℕ). rowText (first + i) (getD vs i (pos 0)) ++ rowsText k (drop (suc i) vs)) (omega arith))
+    let row = rowText (first + i) (getD vs i (pos 0)) in
+    rw (drop-cons vs i (pos 0) h, add-one i) (ap (λ (k : ℕ). row ++ rowsText k (drop (suc i) vs)) (omega arith))
 
 pub rows-none : (first : ℕ) (vs : List ℤ) (i : ℕ) → length vs ≤ i → rowsText (first + i) (drop i vs) ≡ []
 unfolding rowsText
@@ -65,5 +66,6 @@ pub rows-append : (first : ℕ) (a b : List ℤ) → rowsText first (a ++ b) ≡
 unfolding rowsText
 rows-append first [] b = ap (λ (k : ℕ). rowsText k b) (sym (add-zero first))
 rows-append first (v ∷ a) b =
-    ap (λ (l : List ℕ). rowText first v ++ l) (rows-append (suc first) a b ∙ ap (λ (k : ℕ). rowsText (suc first) a ++ rowsText k b) (omega arith))
-    ∙ sym (append-assoc (rowText first v) (rowsText (suc first) a) (rowsText (first + length (v ∷ a)) b))
+    let rest = rowsText (suc first) a in
+    ap (λ (l : List ℕ). rowText first v ++ l) (rows-append (suc first) a b ∙ ap (λ (k : ℕ). rest ++ rowsText k b) (omega arith))
+    ∙ sym (append-assoc (rowText first v) rest (rowsText (first + length (v ∷ a)) b))

@@ -42,7 +42,8 @@ by-pieces s [] = rows-none s
 by-pieces s (p ∷ ps) = rows-cut s p (flatten ps) ∙ ap (λ (l : List ℕ). rowsOf s p ++ l) (by-pieces (decoderAfter s p) ps)
 
 -- the header, the rows of each piece, and the end row of the last position
-pub listed : (ps : List (List ℕ)) → listing (flatten ps) ≡ headerText ++ (rowsOfPieces zeroStart ps ++ endText (decoderAfter zeroStart (flatten ps) .position))
+pub listed : (ps : List (List ℕ))
+    → listing (flatten ps) ≡ headerText ++ (rowsOfPieces zeroStart ps ++ endText (decoderAfter zeroStart (flatten ps) .position))
 unfolding listingText rowsOf decoderBegun
 listed ps =
     ap₂ (λ (rows : List ℕ) (n : ℕ). headerText ++ (rows ++ endText n)) (by-pieces zeroStart ps)

@@ -116,7 +116,7 @@ pub fn write_end(total: u32, out: &mut [u8; END_MOST]) -> usize
     out[1] = b'n';
     out[2] = b'd';
     out[3] = TAB;
-    let newline = write_number(out, 4, total as i64);
-    out[newline] = NEWLINE;
-    newline + 1
+    let end = write_number(out, 4, total as i64);
+    out[end] = NEWLINE;
+    end + 1
 }

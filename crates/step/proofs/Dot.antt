@@ -9,11 +9,10 @@ use lib.IntN.{ℤ, pos, natAbs, _+ℤ_, _*ℤ_, +ℤ-idl, +ℤ-idr, +ℤ-assoc, 
 use lib.ListN.{length, getD, take, drop}
 use lib.Seq.{getD-drop}
 use Rattle.fixed.specs.Number.{minus, In, In16}
-use Rattle.fixed.proofs.Signed.{abs-in, abs-mul, abs-add}
-use Rattle.fixed.proofs.Wide.{in-abs}
+use Rattle.fixed.proofs.Signed.{abs-in, abs-mul, abs-add, in-abs}
 use Rattle.band.specs.Tables.{QMF-COEFFS}
 use Rattle.band.specs.Bounds.{allWords}
-use Rattle.band.proofs.Boxes.{no-words, more-words, head-word, tail-words, words-drop, words-take}
+use Rattle.band.proofs.Boxes.{more-words, head-word, tail-words, words-drop, words-take}
 use Rattle.step.specs.Qmf.{dot, everyOther, evenSum, oddSum}
 
 -- ---- one product more, and all of them
@@ -40,7 +39,7 @@ weight [] = 0
 weight (c ∷ cs) = 32768 * natAbs c + weight cs
 
 term-most : (x c : ℤ) → In16 x → natAbs (x *ℤ c) ≤ 32768 * natAbs c
-term-most x c i = subst (λ (k : ℕ). k ≤ 32768 * natAbs c) (sym (abs-mul x c)) (mul-le-mul (abs-in (minus 32768) (pos 32767) x i) (le-refl _))
+term-most x c i = rw (abs-mul x c) (mul-le-mul (abs-in (minus 32768) (pos 32767) x i) (le-refl _))
 
 dot-most : (xs cs : List ℤ) → allWords xs ≡ true → natAbs (dot xs cs) ≤ weight cs
 unfolding zipWith
@@ -56,7 +55,8 @@ dot-in xs cs w e = in-abs (dot xs cs) 212402176 (subst (λ (n : ℕ). natAbs (do
 words-other : (x : List ℤ) → allWords x ≡ true → allWords (everyOther x) ≡ true
 words-other [] e = e
 words-other (a ∷ []) e = e
-words-other (a ∷ b ∷ xs) e = more-words a (everyOther xs) (head-word a (b ∷ xs) e) (words-other xs (tail-words b xs (tail-words a (b ∷ xs) e)))
+words-other (a ∷ b ∷ xs) e =
+    more-words a (everyOther xs) (head-word a (b ∷ xs) e) (words-other xs (tail-words b xs (tail-words a (b ∷ xs) e)))
 
 double : (i : ℕ) → 2 * suc i ≡ suc (suc (2 * i))
 double i = omega arith
@@ -108,7 +108,8 @@ module _ (x : List ℤ) where
   odd-next i = ap (λ (z : ℤ). oddUpTo x i +ℤ z *ℤ getD QMF-COEFFS i (pos 0)) (sym (other-at x i)) ∙ dot-next (everyOther x) QMF-COEFFS i
 
   pub even-next : (i : ℕ) → i < 12 → evenUpTo x i +ℤ getD x (2 * i + 1) (pos 0) *ℤ getD QMF-COEFFS (11 - i) (pos 0) ≡ evenUpTo x (suc i)
-  even-next i h = (λ t. evenUpTo x i +ℤ sym (next-at x i) t *ℤ sym (reverse-at i h) t) ∙ dot-next (everyOther (drop 1 x)) (reverse QMF-COEFFS) i
+  even-next i h =
+      (λ t. evenUpTo x i +ℤ sym (next-at x i) t *ℤ sym (reverse-at i h) t) ∙ dot-next (everyOther (drop 1 x)) (reverse QMF-COEFFS) i
 
   pub odd-all : oddUpTo x 12 ≡ oddSum x
   odd-all = dot-all (everyOther x) QMF-COEFFS
@@ -121,4 +122,6 @@ module _ (x : List ℤ) where
     odd-in i = dot-in (take i (everyOther x)) QMF-COEFFS refl (words-take i (everyOther x) (words-other x w))
 
     pub even-in : (i : ℕ) → In (minus 212402176) (pos 212402176) (evenUpTo x i)
-    even-in i = dot-in (take i (everyOther (drop 1 x))) (reverse QMF-COEFFS) refl (words-take i (everyOther (drop 1 x)) (words-other (drop 1 x) (words-drop 1 x w)))
+    even-in i =
+        let others = words-other (drop 1 x) (words-drop 1 x w) in
+        dot-in (take i (everyOther (drop 1 x))) (reverse QMF-COEFFS) refl (words-take i (everyOther (drop 1 x)) others)

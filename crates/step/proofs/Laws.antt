@@ -4,15 +4,14 @@ use Prim.Native.Nat.{ℕ, _+_, _*_, _/_, _%_, _≤_, _<_}
 use native.Mathlib.Omega.{arith}
 use borrow.Author.Tests.{eq-eqb, eqb-true}
 use mathlib.Core.Bool.{true, _&&_}
-use mathlib.Core.List.{List, [], _∷_, zipWith}
+use mathlib.Core.List.{List, [], zipWith}
 use mathlib.Core.Path.{_≡_, sym, ap}
 use lib.Dec.{eqb}
 use lib.IntN.{ℤ, pos, _+ℤ_, _-ℤ_, _*ℤ_, zero-*ℤ}
 use lib.ListN.{length, drop, getD, length-append, length-drop, replicate}
 use lib.Signed.{shrZ}
 use Rattle.fixed.specs.Number.{minus, In, In16, clampZ}
-use Rattle.fixed.proofs.Signed.{clamp-in}
-use Rattle.fixed.proofs.Wide.{within, in-add, in-neg}
+use Rattle.fixed.proofs.Signed.{clamp-in, within, in-add, in-neg}
 use Rattle.band.specs.declared.Filters.{Filters}
 use Rattle.band.specs.Tables.{QM6, QM2}
 use Rattle.band.specs.Bounds.{allWords, bandNumbers, bandInBounds, filtersInBounds}

@@ -1,9 +1,9 @@
 -- The two QMF filters of G.722 over the 24 filter numbers x.
-use lib.IntN.{ℤ, _*ℤ_, _+ℤ_, _-ℤ_}
+use lib.IntN.{ℤ, pos, _*ℤ_, _+ℤ_, _-ℤ_}
 use lib.ListN.{drop}
 use lib.Signed.{shrZ}
 use mathlib.Core.List.{List, [], _∷_, _++_, reverse, zipWith}
-use Rattle.fixed.specs.Number.{sat}
+use Rattle.fixed.specs.Number.{minus, sat, Is}
 use Rattle.band.specs.Tables.{QMF-COEFFS}
 use Rattle.band.specs.Block4.{total}
 
@@ -27,6 +27,10 @@ oddSum x = dot (everyOther x) QMF-COEFFS
 -- x1·C11 + x3·C10 + .. + x23·C0
 abbrev pub evenSum : List ℤ → ℤ
 evenSum x = dot (everyOther (drop 1 x)) (reverse QMF-COEFFS)
+
+-- what is handed back as a sum v: no sum over numbers of 16 bits is greater
+abbrev pub IsSum : ℤ → ℤ → Type 0
+IsSum v r = Is (minus 212402176) (pos 212402176) v r
 
 -- the transmit filter: the low and the high band's sample
 abbrev pub xlow : List ℤ → ℤ

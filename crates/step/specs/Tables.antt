@@ -16,8 +16,8 @@ pub record DecodingTables (qm6 qm4 wl : List ℤ) (rl42 ilb : List ℕ) (qm2 wh 
   pub is-rh2 : rh2 ≡ RH2
   pub is-qmf : qmf ≡ QMF-COEFFS
 
-pub record EncodingTables (qmf q6 : List ℤ) (iln ilp : List ℕ) (qm4 wl : List ℤ) (rl42 ilb ihn ihp : List ℕ) (qm2 wh : List ℤ) (rh2 : List ℕ)
-    : Type 0 where
+pub record EncodingTables (qmf q6 : List ℤ) (iln ilp : List ℕ) (qm4 wl : List ℤ) (rl42 ilb ihn ihp : List ℕ) (qm2 wh : List ℤ)
+    (rh2 : List ℕ) : Type 0 where
   pub is-qmf : qmf ≡ QMF-COEFFS
   pub is-q6 : q6 ≡ Q6
   pub is-iln : iln ≡ ILN

@@ -1,9 +1,7 @@
 // The QMF filters.
 ghost use mathlib.Core.Path.{_≡_};
-ghost use lib.IntN.{ℤ, pos};
-ghost use Rattle.fixed.specs.Number.{minus, Is};
 ghost use Rattle.band.specs.Tables.{QMF-COEFFS};
-ghost use Rattle.step.specs.Qmf.{taking, evenSum, oddSum};
+ghost use Rattle.step.specs.Qmf.{taking, evenSum, oddSum, IsSum};
 
 pub(crate) struct Sums {
     pub even: i32,
@@ -27,7 +25,7 @@ pub(crate) fn shifted(x: [i16; 24], a: i16, b: i16) -> [i16; 24]
 
 pub(crate) fn sum(qmf: &[i16; 12], x: [i16; 24]) -> Sums
     requires { ⌜ now qmf ≡ QMF-COEFFS ⌝ }
-    ensures { λ r. ⌜ (Is (minus 212402176) (pos 212402176) (evenSum x) (r .even)) × (Is (minus 212402176) (pos 212402176) (oddSum x) (r .odd)) ⌝ }
+    ensures { λ r. ⌜ (IsSum (evenSum x) (r .even)) × (IsSum (oddSum x) (r .odd)) ⌝ }
 {
     let mut even: i32 = 0;
     let mut odd: i32 = 0;

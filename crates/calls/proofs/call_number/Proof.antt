@@ -19,12 +19,14 @@ returns-3 c = rw (eq-eqb _ _ (c .before .before .if1 .left), c .before .if2 .lef
 returns-4 : tie.Need-returns-4
 unfolding callNumber
 returns-4 c =
-    rw (eq-eqb _ _ (c .before .before .before .if1 .left), c .before .before .if2 .left, ne-eqb _ _ (c .before .if3 .left), lt-ltb _ _ (c .if4 .taken))
+    let b = c .before .before in
+    rw (eq-eqb _ _ (b .before .if1 .left), b .if2 .left, ne-eqb _ _ (c .before .if3 .left), lt-ltb _ _ (c .if4 .taken))
 
 returns-5 : tie.Need-returns-5
 unfolding callNumber
 returns-5 c =
-    rw (eq-eqb _ _ (c .before .before .before .if1 .left), c .before .before .if2 .left, ne-eqb _ _ (c .before .if3 .left), le-ltb _ _ (c .if4 .left))
+    let b = c .before .before in
+    rw (eq-eqb _ _ (b .before .if1 .left), b .if2 .left, ne-eqb _ _ (c .before .if3 .left), le-ltb _ _ (c .if4 .left))
 
 pub call-number-spec : {M : Type 1} → statement M
 call-number-spec = tie.close (tie.spec returns returns-2 returns-3 returns-4 returns-5)

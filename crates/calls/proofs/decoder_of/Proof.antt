@@ -9,7 +9,8 @@ use Rattle.calls.proofs.decoder_of.Tie as tie
 returns : tie.Need-returns
 unfolding decoderOf
 returns c =
-    c .restore-decoder .ensures ∙ ap (λ (b : DecoderAnswer). decoderRestoreAnswer (b .session) (c .before .before .before .before .args .mark .now)) (c .before .before .begin .ensures)
+    let mark = c .before .before .before .before .args .mark .now in
+    c .restore-decoder .ensures ∙ ap (λ (b : DecoderAnswer). decoderRestoreAnswer (b .session) mark) (c .before .before .begin .ensures)
 
 pub decoder-of-spec : {M : Type 1} → statement M
 decoder-of-spec = tie.close (tie.spec (λ c κs. tt) (λ c κs. tt) returns)

@@ -9,7 +9,8 @@ use Rattle.calls.proofs.encoder_of.Tie as tie
 returns : tie.Need-returns
 unfolding encoderOf
 returns c =
-    c .restore-encoder .ensures ∙ ap (λ (b : EncoderAnswer). encoderRestoreAnswer (b .session) (c .before .before .before .before .args .mark .now)) (c .before .before .begin .ensures)
+    let mark = c .before .before .before .before .args .mark .now in
+    c .restore-encoder .ensures ∙ ap (λ (b : EncoderAnswer). encoderRestoreAnswer (b .session) mark) (c .before .before .begin .ensures)
 
 pub encoder-of-spec : {M : Type 1} → statement M
 encoder-of-spec = tie.close (tie.spec (λ c κs. tt) (λ c κs. tt) returns)

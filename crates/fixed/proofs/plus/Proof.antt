@@ -1,6 +1,7 @@
 use Rattle.fixed.specs.Number.{sat}
 use Rattle.fixed.proofs.Wide.{add, at1, from16}
-use Rattle.fixed.proofs.Half.{answer, fits}
+use Rattle.fixed.proofs.Half.{answer}
+use Rattle.fixed.proofs.Fits.{fits}
 use Rattle.fixed.proofs.plus.Statement.{statement}
 use Rattle.fixed.proofs.plus.Tie as tie
 

@@ -1,6 +1,6 @@
 use Rattle.fixed.specs.Number.{sat}
 use Rattle.fixed.proofs.Wide.{any, at1, call, narrow-is}
-use Rattle.fixed.proofs.Half.{fits}
+use Rattle.fixed.proofs.Fits.{fits}
 use Rattle.fixed.proofs.saturate.Statement.{statement}
 use Rattle.fixed.proofs.saturate.Tie as tie
 

@@ -1,5 +1,5 @@
 use Rattle.fixed.proofs.Wide.{from16, mul, narrow-is, shr, var, wide}
-use Rattle.fixed.proofs.Half.{fits}
+use Rattle.fixed.proofs.Fits.{fits}
 use Rattle.fixed.proofs.scaled.Statement.{statement}
 use Rattle.fixed.proofs.scaled.Tie as tie
 

@@ -1,6 +1,8 @@
 use Rattle.fixed.specs.Number.{signedBy}
-use Rattle.fixed.proofs.Wide.{gives, neg, to, var, wide}
-use Rattle.fixed.proofs.Half.{fits, negative, taken}
+use Rattle.fixed.proofs.Wide.{gives, neg, to, var}
+use Rattle.fixed.proofs.Half.{negative}
+use Rattle.fixed.proofs.Signed.{taken}
+use Rattle.fixed.proofs.Fits.{fits}
 use Rattle.fixed.proofs.signed_by.Statement.{statement}
 use Rattle.fixed.proofs.signed_by.Tie as tie
 

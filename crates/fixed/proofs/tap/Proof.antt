@@ -1,7 +1,8 @@
 use lib.IntN.{ℤ, _+ℤ_}
 use Rattle.fixed.specs.Number.{sat}
 use Rattle.fixed.proofs.Wide.{from16, gives, mul, shr}
-use Rattle.fixed.proofs.Half.{ans, fits, h2, half, wide-h}
+use Rattle.fixed.proofs.Half.{ans, h2, half, wide-h}
+use Rattle.fixed.proofs.Fits.{fits}
 use Rattle.fixed.proofs.tap.Statement.{statement}
 use Rattle.fixed.proofs.tap.Tie as tie
 

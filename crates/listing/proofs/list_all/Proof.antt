@@ -6,12 +6,10 @@ use lib.ListN.{length}
 use Rattle.rows.specs.Listing.{Ready}
 use Rattle.listing.proofs.list_all.Statement.{statement}
 use Rattle.listing.proofs.list_all.Tie as tie
-use Rattle.listing.proofs.list_all.Reads as reads
-use Rattle.listing.proofs.list_all.Lts as lts
-use Rattle.listing.proofs.list_some.Reads as list-some-reads
 
 abbrev Inv-loop : tie.InvT-loop
-Inv-loop input₀ text₀ listed₀ turns₀ input text listed turns = (length input ≡ length input₀) × (length text ≡ length text₀) × Ready (listed .session) 0
+Inv-loop input₀ text₀ listed₀ turns₀ input text listed turns =
+    (length input ≡ length input₀) × (length text ≡ length text₀) × Ready (listed .session) 0
 
 abbrev μ-loop : tie.MeasureT-loop
 μ-loop input₀ text₀ listed₀ turns₀ input text listed turns = turns

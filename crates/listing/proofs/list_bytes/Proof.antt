@@ -17,11 +17,6 @@ use Rattle.rows.proofs.Pieces.{listed-session}
 use Rattle.rows.proofs.Stops.{ready-lists, ready-after, ready-fewer, ready-none}
 use Rattle.listing.proofs.list_bytes.Statement.{statement}
 use Rattle.listing.proofs.list_bytes.Tie as tie
-use Rattle.listing.proofs.list_bytes.Reads as reads
-use Rattle.listing.proofs.list_bytes.Lts as lts
-use Rattle.listing.proofs.piece_end.Reads as piece-end-reads
-use Rattle.listing.proofs.put.Reads as put-reads
-use Rattle.rows.proofs.list.Reads as list-reads
 
 -- s is the session after the bytes before `at`
 record Running (before : Decoder) (bytes o q : List ℕ) (s : Decoder) (at : ℕ) : Type 0 where
@@ -93,7 +88,8 @@ list-requires : tie.Need-list-requires Inv-loop μ-loop
 list-requires c κs = search needs
 
 -- after a piece
-listed : (c : tie.After-list Inv-loop μ-loop) → let p = c .before .before .before in let l = p .before .before in let a = l .before .before .before .args in
+listed : (c : tie.After-list Inv-loop μ-loop)
+    → let p = c .before .before .before in let a = p .before .before .before .before .before .args in
     Running (a .before) (now (a .bytes)) (now (a .text)) (c .list .last .1 .0) (c .list .result .session) (p .piece-end .result)
 listed c =
     let p = c .before .before .before in

@@ -7,14 +7,6 @@ use Rattle.rows.proofs.Stops.{ready-fewer, ready-fitting}
 use borrow.Author.Needs.{needs}
 use Rattle.listing.proofs.list_some.Statement.{statement}
 use Rattle.listing.proofs.list_some.Tie as tie
-use Rattle.listing.proofs.list_some.Reads as reads
-use Rattle.listing.proofs.list_some.Lts as lts
-use Rattle.io.proofs.count.Reads as count-reads
-use Rattle.io.proofs.write_all.Reads as write-all-reads
-use Rattle.libc.proofs.read.Reads as read-reads
-use Rattle.listing.proofs.list_bytes.Reads as list-bytes-reads
-use Rattle.os.proofs.fail.Reads as fail-reads
-use Rattle.rows.proofs.fitting.Reads as fitting-reads
 
 read-requires : tie.Need-read-requires
 read-requires c κs = search needs
@@ -52,8 +44,9 @@ list-bytes-requires : tie.Need-list-bytes-requires
 list-bytes-requires c κs =
     let f = c .before .before in
     let s = f .before .before .before .before .before .before .before .before .before .before in
-    let ready : Ready (s .args .before) (f .fitting .result) = rw (f .fitting .ensures) (ready-fitting (s .args .before) (f .before .count .result) (s .pre .0)) in
-    (ready-fewer (s .args .before) (f .fitting .result) _ (simp length-take (omega arith)) ready, s .pre .1)
+    let d = s .args .before in
+    let ready : Ready d (f .fitting .result) = rw (f .fitting .ensures) (ready-fitting d (f .before .count .result) (s .pre .0)) in
+    (ready-fewer d (f .fitting .result) _ (simp length-take (omega arith)) ready, s .pre .1)
 
 slice-aggregate-write-all : tie.Need-slice-aggregate-write-all
 slice-aggregate-write-all c = search needs

@@ -5,14 +5,6 @@ use Rattle.rows.proofs.Stops.{ready-begun}
 use borrow.Author.Needs.{needs}
 use Rattle.listing.proofs.main.Statement.{statement}
 use Rattle.listing.proofs.main.Tie as tie
-use Rattle.listing.proofs.main.Reads as reads
-use Rattle.listing.proofs.main.Lts as lts
-use Rattle.g722.proofs.Decoder.begin.Reads as begin-reads
-use Rattle.io.proofs.large_buffer.Reads as large-buffer-reads
-use Rattle.listing.proofs.list_all.Reads as list-all-reads
-use Rattle.listing.proofs.put.Reads as put-reads
-use Rattle.rows.proofs.header.Reads as header-reads
-use Rattle.rows.proofs.write_end.Reads as write-end-reads
 
 header-requires : tie.Need-header-requires
 header-requires c κs = search needs

@@ -1,22 +1,15 @@
 -- `list` meets its contract: the piece is refused where its decoding is, and its rows are those of what was decoded.
-use mathlib.Core.Path.{_≡_, refl, sym, ap, _∙_}
+use mathlib.Core.Path.{_≡_, sym, _∙_}
 use mathlib.Core.List.{_++_}
 use native.Mathlib.Omega.{arith}
 use borrow.Author.Needs.{needs}
 use denote.Ref.{now}
 use lib.ListN.{length, take, drop}
 use lib.Seq.{length-take-le}
-use Rattle.rows.specs.Text.{rowMost}
 use Rattle.rows.specs.Listing.{rowsOf}
 use Rattle.rows.proofs.Pieces.{Decoded, decoded, list-refused, list-done}
 use Rattle.rows.proofs.list.Statement.{statement}
 use Rattle.rows.proofs.list.Tie as tie
-use Rattle.rows.proofs.list.Reads as reads
-use Rattle.rows.proofs.list.Lts as lts
-use Rattle.g722.proofs.Decoder.decode.Reads as decode-reads
-use Rattle.rows.proofs.rows_for.Reads as rows-for-reads
-use Rattle.rows.proofs.sample_room.Reads as sample-room-reads
-use Rattle.rows.proofs.write_rows.Reads as write-rows-reads
 
 sample-room-requires : tie.Need-sample-room-requires
 sample-room-requires c κs = tt
@@ -46,7 +39,8 @@ returns c =
 
 -- past the test
 here : (c : tie.Else1) → let d = c .before .before .before in let f = d .before .before in let a = f .before .before .before .before .args in
-    Decoded (a .session) (now (a .input)) (now (a .out)) (d .decode .last .1 .1 .0 ++ drop (f .rows-for .result) (f .before .sample-room .result)) (d .decode .result)
+    Decoded (a .session) (now (a .input)) (now (a .out))
+    (d .decode .last .1 .1 .0 ++ drop (f .rows-for .result) (f .before .sample-room .result)) (d .decode .result)
 here c =
     let d = c .before .before .before in
     let f = d .before .before in

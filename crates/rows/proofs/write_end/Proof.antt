@@ -1,12 +1,12 @@
 -- `write_end` meets its contract.
-use mathlib.Core.Path.{_≡_, sym, ap, _∙_}
-use Prim.Native.Nat.{_+_, _≤_, _<_}
+use mathlib.Core.Path.{_≡_, sym}
+use Prim.Native.Nat.{_+_, _<_}
 use native.Mathlib.Omega.{arith}
 use borrow.Author.Needs.{needs}
 use denote.Ref.{now}
 use lib.IntN.{pos}
 use lib.ListN.{length, set, length-set}
-use lib.Seq.{sets, length-sets}
+use lib.Seq.{sets}
 use mir.Syntax.{w64}
 use mir.Facts.{toZ-pos}
 use Rattle.text.specs.Number.{decimal}
@@ -14,9 +14,6 @@ use Rattle.rows.specs.Text.{endWord, endText}
 use Rattle.rows.proofs.Texts.{two-length, two-stored, index-length}
 use Rattle.rows.proofs.write_end.Statement.{statement}
 use Rattle.rows.proofs.write_end.Tie as tie
-use Rattle.rows.proofs.write_end.Reads as reads
-use Rattle.rows.proofs.write_end.Lts as lts
-use Rattle.text.proofs.number.write_number.Reads as write-number-reads
 
 element-write-out : tie.Need-element-write-out
 element-write-out c = search needs
@@ -58,8 +55,7 @@ unfolding endText
 returns c =
     let a = c .before .before .args in
     let e = after-total c in
-    let y = decimal (pos (a .total)) in
-    (
+    let y = decimal (pos (a .total)) in (
       omega (arith, e .0, two-length endWord y),
       (
         rw (e .0, e .1) (sym (two-stored endWord y (now (a .out)) 0)),

@@ -12,13 +12,10 @@ use mir.Val.{SFits, toZ, ofZ}
 use mir.Facts.{sfits-widen, toZ-ofZ, toZ-pos}
 use Rattle.text.specs.Ascii.{TAB}
 use Rattle.text.specs.Number.{decimal}
-use Rattle.rows.specs.Text.{rowText, rowMost}
+use Rattle.rows.specs.Text.{rowText}
 use Rattle.rows.proofs.Texts.{two-length, two-stored, index-length, value-length}
 use Rattle.rows.proofs.write_row.Statement.{statement}
 use Rattle.rows.proofs.write_row.Tie as tie
-use Rattle.rows.proofs.write_row.Reads as reads
-use Rattle.rows.proofs.write_row.Lts as lts
-use Rattle.text.proofs.number.write_number.Reads as write-number-reads
 
 cast-write-number : tie.Need-cast-write-number
 cast-write-number c = search needs

@@ -1,6 +1,6 @@
 -- `write_rows` meets its contract: what is stored, and the rows of the samples still to come, are all the rows.
 use mathlib.Core.Path.{_≡_, refl, sym, ap, _∙_}
-use mathlib.Core.List.{List, [], _++_}
+use mathlib.Core.List.{List, _++_}
 use Prim.Native.Nat.{ℕ, _+_, _-_, _*_, _^_, _≤_, _<_}
 use native.Mathlib.Nat.{add-zero}
 use native.Mathlib.Omega.{arith}
@@ -17,9 +17,6 @@ use Rattle.rows.specs.Text.{rowText, rowsText, rowMost}
 use Rattle.rows.proofs.Texts.{row-length, rows-at, rows-none}
 use Rattle.rows.proofs.write_rows.Statement.{statement}
 use Rattle.rows.proofs.write_rows.Tie as tie
-use Rattle.rows.proofs.write_rows.Reads as reads
-use Rattle.rows.proofs.write_rows.Lts as lts
-use Rattle.rows.proofs.write_row.Reads as write-row-reads
 
 -- o is the buffer at the start and q now; the row of the i-th sample goes to `at`
 record Writing (first : ℕ) (vs : List ℤ) (o q : List ℕ) (at i : ℕ) : Type 0 where
@@ -41,7 +38,8 @@ starts first vs o =
 
 module _ {first : ℕ} {vs : List ℤ} {o q : List ℕ} {at i : ℕ} (w : Writing first vs o q at i) where
   more : i < length vs → first + i < 10 ^ 10 → (v : ℤ) → v ≡ getD vs i (pos 0) → SFits w16 v
-      → (z : List ℕ) (r : ℕ) → r ≡ at + length (rowText (first + i) v) → z ≡ sets q at (rowText (first + i) v) → Writing first vs o z r (i + 1)
+      → (z : List ℕ) (r : ℕ) → r ≡ at + length (rowText (first + i) v) → z ≡ sets q at (rowText (first + i) v)
+      → Writing first vs o z r (i + 1)
   more h n v e f z r p b =
       let row = rowText (first + i) v in
       let rest = rowsText (first + (i + 1)) (drop (i + 1) vs) in
@@ -54,10 +52,11 @@ module _ {first : ℕ} {vs : List ℤ} {o q : List ℕ} {at i : ℕ} (w : Writin
         whole = rw (b, p) (sym (sets-append q at row rest)) ∙ ap (sets q at) (sym step) ∙ w .whole;
       }
 
-  ends : rowMost * length vs ≤ length o → length vs ≤ i → (at ≡ length (rowsText first vs)) × ((q ≡ sets o 0 (rowsText first vs)) × (at ≤ length q))
+  ends : rowMost * length vs ≤ length o → length vs ≤ i
+      → (at ≡ length (rowsText first vs)) × ((q ≡ sets o 0 (rowsText first vs)) × (at ≤ length q))
   ends room h =
       let none = rows-none first vs i h in
-      (omega (arith, w .place, ap length none), (ap (sets q at) (sym none) ∙ w .whole, omega (arith, w .within, w .small, w .same)))
+      (omega (arith, w .place, ap length none), (ap (sets q at) (sym none) ∙ w .whole, omega (arith, w .small, w .same)))
 
 abbrev Inv-loop : tie.InvT-loop
 Inv-loop first samples out₀ at₀ i₀ out at i = Writing first samples out₀ out at i
@@ -94,7 +93,8 @@ loop-again c =
     let f = c .before .before .before in
     let l = f .before .before .before in
     let fits : SFits w16 (getD (now (l .before .before .args .samples)) (l .loop .i) (pos 0)) = record { sfits = f .write-row-arg2 .given } in
-    more (l .loop .inv) (f .before .before .loop-test .taken) (omega arith) _ refl fits _ _ (rw (toZ-ofZ fits) at (r .ensures .0)) (rw (toZ-ofZ fits) at (r .ensures .1))
+    let e = rw (toZ-ofZ fits) at (r .ensures) in
+    more (l .loop .inv) (f .before .before .loop-test .taken) (omega arith) _ refl fits _ _ (e .0) (e .1)
 
 same-length : tie.Need-same-length Inv-loop μ-loop
 same-length c = c .before .loop .inv .same

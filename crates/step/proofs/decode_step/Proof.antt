@@ -6,6 +6,7 @@ use mathlib.Core.Path.{_∙_, ap, refl}
 use Rattle.fixed.specs.Number.{minus, sat}
 use Rattle.fixed.proofs.Wide.{add, asks, at1, call, narrow-fits, read, shr, sub, wide, widen-fits}
 use Rattle.fixed.proofs.Half.{H, ans, entry32, h2, half, readh, thin, wide-h}
+use Rattle.band.specs.declared.Band.{Band}
 use Rattle.band.specs.Tables.{QM6, QM2}
 use Rattle.band.specs.Adapt.{INVQ}
 use Rattle.step.specs.Qmf.{taking, evenSum, oddSum}
@@ -14,17 +15,25 @@ use Rattle.step.proofs.decode_step.Statement.{statement}
 use Rattle.step.proofs.decode_step.Tie as tie
 
 -- the two bands' numbers that are read
-low-s : (c : tie.After-struct-told) → H (c .before .before .before .before .args .f .low .s) (c .before .before .before .before .args .f .low .s)
-low-s c = half (sfits-of (c .struct-told .given .0 .1))
+module _ (c : tie.After-struct-told) where
+  abbrev low : Band
+  low = c .before .before .before .before .args .f .low
 
-low-det : (c : tie.After-struct-told) → H (c .before .before .before .before .args .f .low .det) (c .before .before .before .before .args .f .low .det)
-low-det c = half (sfits-of (c .struct-told .given .1 .1 .1 .1 .1 .1 .1 .1 .1 .1 .1 .1 .1 .1 .1 .1 .1 .1 .1 .1 .1 .1 .0 .1))
+  low-s : H (low .s) (low .s)
+  low-s = half (sfits-of (c .struct-told .given .0 .1))
 
-high-s : (c : tie.After-struct-told3) → H (c .before .before .before .before .before .before .before .before .before .before .args .f .high .s) (c .before .before .before .before .before .before .before .before .before .before .args .f .high .s)
-high-s c = half (sfits-of (c .struct-told3 .given .0 .1))
+  low-det : H (low .det) (low .det)
+  low-det = half (sfits-of (c .struct-told .given .1 .1 .1 .1 .1 .1 .1 .1 .1 .1 .1 .1 .1 .1 .1 .1 .1 .1 .1 .1 .1 .1 .0 .1))
 
-high-det : (c : tie.After-struct-told3) → H (c .before .before .before .before .before .before .before .before .before .before .args .f .high .det) (c .before .before .before .before .before .before .before .before .before .before .args .f .high .det)
-high-det c = half (sfits-of (c .struct-told3 .given .1 .1 .1 .1 .1 .1 .1 .1 .1 .1 .1 .1 .1 .1 .1 .1 .1 .1 .1 .1 .1 .1 .0 .1))
+module _ (c : tie.After-struct-told3) where
+  abbrev high : Band
+  high = c .before .before .before .before .before .before .before .before .before .before .args .f .high
+
+  high-s : H (high .s) (high .s)
+  high-s = half (sfits-of (c .struct-told3 .given .0 .1))
+
+  high-det : H (high .det) (high .det)
+  high-det = half (sfits-of (c .struct-told3 .given .1 .1 .1 .1 .1 .1 .1 .1 .1 .1 .1 .1 .1 .1 .1 .1 .1 .1 .1 .1 .1 .1 .0 .1))
 
 cast-ilow : tie.Need-cast-ilow
 cast-ilow c = search needs
@@ -41,7 +50,7 @@ element-copy-out-scaled c = search needs
 scaled-requires : tie.Need-scaled-requires
 scaled-requires c κs =
     let s = c .before .before .before .before in
-    asks (entry32 (minus 24808) (pos 24808) QM6 tt tt (s .pre .is-qm6) {i = s .args .byte % 64} refl) _ _ tt tt
+    asks (entry32 QM6 (minus 24808) (pos 24808) tt tt (s .pre .is-qm6) {i = s .args .byte % 64} refl) _ _ tt tt
 
 cast-clamp : tie.Need-cast-clamp
 cast-clamp c = widen-fits (low-s (c .before .before .before) .fits)
@@ -66,7 +75,7 @@ element-copy-out-scaled-2 c = search needs
 scaled-requires-2 : tie.Need-scaled-requires-2
 scaled-requires-2 c κs =
     let s = c .before .before .before .before .before .before .before .before .before .before in
-    asks (entry32 (minus 7408) (pos 7408) QM2 tt tt (s .pre .is-qm2) {i = s .args .byte / 64} refl) _ _ tt tt
+    asks (entry32 QM2 (minus 7408) (pos 7408) tt tt (s .pre .is-qm2) {i = s .args .byte / 64} refl) _ _ tt tt
 
 cast-clamp-3 : tie.Need-cast-clamp-3
 cast-clamp-3 c = widen-fits (high-s (c .before .before .before) .fits)
@@ -82,14 +91,17 @@ add-clamp-2 c =
 clamp-requires-2 : tie.Need-clamp-requires-2
 clamp-requires-2 c κs = record { le = tt }
 
+abbrev start : (c : tie.After-clamp2) → tie.Start
+start c = c .before .before .before .before .before .before .before .before .before .before .before .before .before .before
+
 low-update-requires : tie.Need-low-update-requires
 low-update-requires c κs =
-    let p = c .before .before .before .before .before .before .before .before .before .before .before .before .before .before .pre in
+    let p = start c .pre in
     (p .is-qm4, p .is-wl, p .is-rl42, p .is-ilb, omega arith)
 
 high-update-requires : tie.Need-high-update-requires
 high-update-requires c κs =
-    let s = c .before .before .before .before .before .before .before .before .before .before .before .before .before .before .before in
+    let s = start (c .before) in
     (s .pre .is-qm2, s .pre .is-wh, s .pre .is-rh2, s .pre .is-ilb, omega (arith, s .fits .byte))
 
 add-shifted : tie.Need-add-shifted
@@ -120,7 +132,7 @@ shifted-requires : tie.Need-shifted-requires
 shifted-requires c κs = tt
 
 sum-requires : tie.Need-sum-requires
-sum-requires c κs = c .before .before .before .before .before .before .before .before .before .before .before .before .before .before .before .before .before .before .pre .is-qmf
+sum-requires c κs = start (c .before .before .before .before) .pre .is-qmf
 
 saturate-requires : tie.Need-saturate-requires
 saturate-requires c κs = tt
@@ -143,8 +155,8 @@ returns c =
     let at-dlow = at-rlow .before .before .before in
     let low-told = at-dlow .before in
     let s = low-told .before .before .before .before in
-    let ql = entry32 (minus 24808) (pos 24808) QM6 tt tt (s .pre .is-qm6) {i = s .args .byte % 64} refl in
-    let qh = entry32 (minus 7408) (pos 7408) QM2 tt tt (s .pre .is-qm2) {i = s .args .byte / 64} refl in
+    let ql = entry32 QM6 (minus 24808) (pos 24808) tt tt (s .pre .is-qm6) {i = s .args .byte % 64} refl in
+    let qh = entry32 QM2 (minus 7408) (pos 7408) tt tt (s .pre .is-qm2) {i = s .args .byte / 64} refl in
     let dlow = ans (at-dlow .scaled .ensures) (λ t. INVQ (readh (low-det low-told) t) (read ql t)) (at-dlow .scaled .ok) in
     let dhigh = ans (at-dhigh .scaled2 .ensures) (λ t. INVQ (readh (high-det high-told) t) (read qh t)) (at-dhigh .scaled2 .ok) in
     let rlow = call (at-rlow .clamp .ensures) (at1 (add (wide-h (low-s low-told)) (wide-h dlow) tt) LIMIT) tt in

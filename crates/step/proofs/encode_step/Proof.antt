@@ -5,6 +5,7 @@ use mathlib.Core.Path.{_∙_, ap, refl, subst, sym}
 use Rattle.fixed.specs.Number.{sat}
 use Rattle.fixed.proofs.Wide.{add, at1, call, shr, sub, widen-fits}
 use Rattle.fixed.proofs.Half.{H, ans, h2, half, wide-h}
+use Rattle.band.specs.declared.Band.{Band}
 use Rattle.band.specs.Quantise.{QUANTL, QUANTH}
 use Rattle.band.specs.Adapt.{lowUpdate, highUpdate}
 use Rattle.band.proofs.Codes.{quantl-most, quanth-most}
@@ -14,17 +15,27 @@ use Rattle.step.proofs.encode_step.Statement.{statement}
 use Rattle.step.proofs.encode_step.Tie as tie
 
 -- the two bands' numbers that are read
-low-s : (c : tie.After-struct-told3) → H (c .before .before .before .before .before .before .before .before .before .before .before .args .f .low .s) (c .before .before .before .before .before .before .before .before .before .before .before .args .f .low .s)
-low-s c = half (sfits-of (c .struct-told3 .given .0 .1))
+module _ (c : tie.After-struct-told3) where
+  abbrev low : Band
+  low = c .before .before .before .before .before .before .before .before .before .before .before .args .f .low
 
-low-det : (c : tie.After-struct-told3) → H (c .before .before .before .before .before .before .before .before .before .before .before .args .f .low .det) (c .before .before .before .before .before .before .before .before .before .before .before .args .f .low .det)
-low-det c = half (sfits-of (c .struct-told3 .given .1 .1 .1 .1 .1 .1 .1 .1 .1 .1 .1 .1 .1 .1 .1 .1 .1 .1 .1 .1 .1 .1 .0 .1))
+  low-s : H (low .s) (low .s)
+  low-s = half (sfits-of (c .struct-told3 .given .0 .1))
 
-high-s : (c : tie.After-struct-told5) → H (c .before .before .before .before .before .before .before .before .before .before .before .before .before .before .before .before .before .args .f .high .s) (c .before .before .before .before .before .before .before .before .before .before .before .before .before .before .before .before .before .args .f .high .s)
-high-s c = half (sfits-of (c .struct-told5 .given .0 .1))
+  low-det : H (low .det) (low .det)
+  low-det = half (sfits-of (c .struct-told3 .given .1 .1 .1 .1 .1 .1 .1 .1 .1 .1 .1 .1 .1 .1 .1 .1 .1 .1 .1 .1 .1 .1 .0 .1))
 
-high-det : (c : tie.After-struct-told5) → H (c .before .before .before .before .before .before .before .before .before .before .before .before .before .before .before .before .before .args .f .high .det) (c .before .before .before .before .before .before .before .before .before .before .before .before .before .before .before .before .before .args .f .high .det)
-high-det c = half (sfits-of (c .struct-told5 .given .1 .1 .1 .1 .1 .1 .1 .1 .1 .1 .1 .1 .1 .1 .1 .1 .1 .1 .1 .1 .1 .1 .0 .1))
+module _ (c : tie.After-struct-told5) where
+  abbrev high : Band
+  high =
+      let s = c .before .before .before .before .before .before .before .before .before .before in
+      s .before .before .before .before .before .before .before .args .f .high
+
+  high-s : H (high .s) (high .s)
+  high-s = half (sfits-of (c .struct-told5 .given .0 .1))
+
+  high-det : H (high .det) (high .det)
+  high-det = half (sfits-of (c .struct-told5 .given .1 .1 .1 .1 .1 .1 .1 .1 .1 .1 .1 .1 .1 .1 .1 .1 .1 .1 .1 .1 .1 .1 .0 .1))
 
 -- the codes' ranges
 ilow-most : (c : tie.After-quantl) → c .quantl .result ≤ 63
@@ -71,9 +82,12 @@ quantl-requires c κs =
 cast-low-update : tie.Need-cast-low-update
 cast-low-update c = search needs
 
+abbrev start : (c : tie.After-quantl) → tie.Start
+start c = c .before .before .before .before .before .before .before .before .before .before .before .before .before .before
+
 low-update-requires : tie.Need-low-update-requires
 low-update-requires c κs =
-    let p = c .before .before .before .before .before .before .before .before .before .before .before .before .before .before .pre in
+    let p = start c .pre in
     (p .is-qm4, p .is-wl, p .is-rl42, p .is-ilb, omega (arith, ilow-most c))
 
 cast-saturate-2 : tie.Need-cast-saturate-2
@@ -81,8 +95,9 @@ cast-saturate-2 c = widen-fits (high-s c .fits)
 
 sub-saturate-2 : tie.Need-sub-saturate-2
 sub-saturate-2 c =
-    let even = call (c .before .before .before .before .before .before .before .before .before .before .before .before .sum .ensures .0) refl tt in
-    let odd = call (c .before .before .before .before .before .before .before .before .before .before .before .before .sum .ensures .1) refl tt in
+    let at-sum = c .before .before .before .before .before .before .before .before .before .before .before .before in
+    let even = call (at-sum .sum .ensures .0) refl tt in
+    let odd = call (at-sum .sum .ensures .1) refl tt in
     sub (shr (sub even odd tt) 14 tt) (wide-h (high-s c)) tt .fits
 
 saturate-requires-2 : tie.Need-saturate-requires-2
@@ -90,7 +105,7 @@ saturate-requires-2 c κs = tt
 
 quanth-requires : tie.Need-quanth-requires
 quanth-requires c κs =
-    let p = c .before .before .before .before .before .before .before .before .before .before .before .before .before .before .before .before .before .before .before .pre in
+    let p = start (c .before .before .before .before .before) .pre in
     (p .is-ihn, p .is-ihp)
 
 cast-high-update : tie.Need-cast-high-update
@@ -98,7 +113,7 @@ cast-high-update c = search needs
 
 high-update-requires : tie.Need-high-update-requires
 high-update-requires c κs =
-    let p = c .before .before .before .before .before .before .before .before .before .before .before .before .before .before .before .before .before .before .before .before .pre in
+    let p = start (c .before .before .before .before .before .before) .pre in
     (p .is-qm2, p .is-wh, p .is-rh2, p .is-ilb, omega (arith, ihigh-most c))
 
 mul-byte : tie.Need-mul-byte

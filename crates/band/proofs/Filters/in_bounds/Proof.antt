@@ -22,7 +22,10 @@ in-bounds-requires-2 c κs = tt
 
 returns : tie.Need-returns
 unfolding filtersInBounds
-returns c = let x = both (eq-eqb _ _ (long (c .before .before))) (words (c .before .before)) in λ i. sym x i && (c .before .in-bounds .ensures i && c .in-bounds2 .ensures i)
+returns c =
+    let s = c .before .before in
+    let x = both (eq-eqb _ _ (long s)) (words s) in
+    λ i. sym x i && (c .before .in-bounds .ensures i && c .in-bounds2 .ensures i)
 
 pub in-bounds-spec : {M : Type 1} → statement M
 in-bounds-spec = tie.close (tie.spec in-bounds-requires in-bounds-requires-2 returns)

@@ -4,7 +4,8 @@ use mathlib.Core.Path.{_∙_}
 use Rattle.fixed.specs.Number.{clampZ}
 use Rattle.fixed.proofs.Signed.{clamp-in, ≤-trans}
 use Rattle.fixed.proofs.Wide.{E, add, at2, from16, le-asks, lit, mul, narrow-fits, shr, var, wide}
-use Rattle.fixed.proofs.Half.{fits, givesh, thin}
+use Rattle.fixed.proofs.Half.{givesh, thin}
+use Rattle.fixed.proofs.Fits.{fits}
 use Rattle.band.specs.Adapt.{LOGSC}
 use Rattle.band.proofs.adapt.logsc.Statement.{statement}
 use Rattle.band.proofs.adapt.logsc.Tie as tie

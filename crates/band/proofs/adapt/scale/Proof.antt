@@ -22,13 +22,14 @@ most c = nat-in _ (c .args .nb) (c .pre .2)
 abbrev computed : List ℕ → ℤ → ℕ → ℕ
 computed l z base = 4 * (getD l (natAbs z / 64 % 32) 0 * 2 ^ (natAbs z / 2048) % 4294967296 / 2 ^ base)
 
-is : (c : tie.After-result) → computed (c .before .args .ilb .now) (rh (c .before .args .nb)) (c .before .args .base) ≡ detOf (c .before .args .base) (natAbs (c .before .args .nb))
+is : (c : tie.After-result) → let s = c .before .args in
+    computed (s .ilb .now) (rh (s .nb)) (s .base) ≡ detOf (s .base) (natAbs (s .nb))
 is c =
     let s = c .before in
     (λ i. computed (s .pre .0 i) (readh (half (s .fits .nb)) i) (s .args .base))
     ∙ ap (λ (v : ℕ). 4 * (v / 2 ^ (s .args .base))) (shifted-is _ _ (most s) (s .pre .1))
 
-fine : (c : tie.After-result) → SFits w16 (pos (computed (c .before .args .ilb .now) (rh (c .before .args .nb)) (c .before .args .base)))
+fine : (c : tie.After-result) → let s = c .before .args in SFits w16 (pos (computed (s .ilb .now) (rh (s .nb)) (s .base)))
 fine c = subst (λ (n : ℕ). SFits w16 (pos n)) (sym (is c)) (record { sfits = omega (arith, det-most _ _ (most (c .before))) })
 
 cast-n : tie.Need-cast-n

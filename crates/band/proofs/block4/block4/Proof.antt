@@ -52,10 +52,14 @@ upzero-requires-4 : tie.Need-upzero-requires-4
 upzero-requires-4 c κs = gained (c .before .before .before .before .before .before .before .before .before .before .before)
 
 upzero-requires-5 : tie.Need-upzero-requires-5
-upzero-requires-5 c κs = gained (c .before .before .before .before .before .before .before .before .before .before .before .before .before .before)
+upzero-requires-5 c κs =
+    let c4 = c .before .before .before .before .before .before in
+    gained (c4 .before .before .before .before .before .before .before .before)
 
 upzero-requires-6 : tie.Need-upzero-requires-6
-upzero-requires-6 c κs = gained (c .before .before .before .before .before .before .before .before .before .before .before .before .before .before .before .before .before)
+upzero-requires-6 c κs =
+    let c4 = c .before .before .before .before .before .before .before .before .before in
+    gained (c4 .before .before .before .before .before .before .before .before)
 
 filtep-requires : tie.Need-filtep-requires
 filtep-requires c κs = tt
@@ -99,8 +103,8 @@ returns c =
     let b6 = ans (at6 .upzero6 .ensures) (λ t. zeroed (read g t) (readh (k 14) t) (readh (k 20) t)) (at6 .upzero6 .ok) in
     let sp = ans (at-sp .filtep .ensures) (h4 a1 a2 r0 (k 3) (λ (a b x y : ℤ). FILTEP (a ∷ b ∷ []) (x ∷ y ∷ []))) (at-sp .filtep .ok) in
     let sz = ans (at-sz .filtez .ensures) (λ t.
-        FILTEZ (readh b1 t ∷ readh b2 t ∷ readh b3 t ∷ readh b4 t ∷ readh b5 t ∷ readh b6 t ∷ [])
-        (readh d t ∷ readh (k 9) t ∷ readh (k 10) t ∷ readh (k 11) t ∷ readh (k 12) t ∷ readh (k 13) t ∷ [])) (at-sz .filtez .ok) in
+    FILTEZ (readh b1 t ∷ readh b2 t ∷ readh b3 t ∷ readh b4 t ∷ readh b5 t ∷ readh b6 t ∷ [])
+    (readh d t ∷ readh (k 9) t ∷ readh (k 10) t ∷ readh (k 11) t ∷ readh (k 12) t ∷ readh (k 13) t ∷ [])) (at-sz .filtez .ok) in
     let s = ans (at-s .plus3 .ensures) (h2 sp sz (λ (a b : ℤ). sat (a +ℤ b))) (at-s .plus3 .ok) in
     λ t. record {
       s = readh s t;

@@ -3,7 +3,8 @@ use mathlib.Core.List.{zipWith}
 use mathlib.Core.Path.{refl, sym}
 use Rattle.fixed.specs.Number.{sat, tapped}
 use Rattle.fixed.proofs.Wide.{add, at1, call, to}
-use Rattle.fixed.proofs.Half.{answer, fits, h2, half}
+use Rattle.fixed.proofs.Half.{answer, h2, half}
+use Rattle.fixed.proofs.Fits.{fits}
 use Rattle.band.proofs.block4.filtez.Statement.{statement}
 use Rattle.band.proofs.block4.filtez.Tie as tie
 

@@ -2,8 +2,10 @@ use borrow.Author.Needs.{needs, sfits-of}
 use lib.IntN.{pos, _-ℤ_}
 use mathlib.Core.Path.{_∙_}
 use Rattle.fixed.specs.Number.{minus, clampZ, sat}
-use Rattle.fixed.proofs.Wide.{E, add, at1, at3, call, from16, le-asks, lit, mul, narrow-fits, narrow-is, neg, shr, sub, within}
-use Rattle.fixed.proofs.Half.{H, ans, fits, half, signs, wide-h}
+use Rattle.fixed.proofs.Signed.{within}
+use Rattle.fixed.proofs.Wide.{E, add, at1, at3, call, from16, le-asks, lit, mul, narrow-fits, narrow-is, neg, shr, sub}
+use Rattle.fixed.proofs.Half.{H, ans, half, signs, wide-h}
+use Rattle.fixed.proofs.Fits.{fits}
 use Rattle.band.specs.Block4.{UPPOL1}
 use Rattle.band.proofs.Poles.{limit-le, pole-in, pole-lit}
 use Rattle.band.proofs.block4.uppol1.Statement.{statement}

@@ -3,7 +3,8 @@ use lib.IntN.{pos}
 use mathlib.Core.Path.{refl}
 use Rattle.fixed.specs.Number.{minus, clampZ, sat}
 use Rattle.fixed.proofs.Wide.{add, asks, at1, call, from16, lit, mul, neg, shr, wide}
-use Rattle.fixed.proofs.Half.{ans, fits, givesh, half, signs, thin, wide-h}
+use Rattle.fixed.proofs.Half.{ans, givesh, half, signs, thin, wide-h}
+use Rattle.fixed.proofs.Fits.{fits}
 use Rattle.band.proofs.block4.uppol2.Statement.{statement}
 use Rattle.band.proofs.block4.uppol2.Tie as tie
 

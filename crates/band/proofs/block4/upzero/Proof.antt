@@ -1,7 +1,8 @@
 use lib.IntN.{pos}
 use Rattle.fixed.specs.Number.{sat}
 use Rattle.fixed.proofs.Wide.{add, asks, at1, call, from16, lit, mul, shr, var}
-use Rattle.fixed.proofs.Half.{answer, fits, half, signs}
+use Rattle.fixed.proofs.Half.{answer, half, signs}
+use Rattle.fixed.proofs.Fits.{fits}
 use Rattle.band.proofs.block4.upzero.Statement.{statement}
 use Rattle.band.proofs.block4.upzero.Tie as tie
 

@@ -1,4 +1,5 @@
-use Rattle.fixed.proofs.Half.{negative, taken}
+use Rattle.fixed.proofs.Half.{negative}
+use Rattle.fixed.proofs.Signed.{taken}
 use Rattle.band.proofs.quantise.by_sign.Statement.{statement}
 use Rattle.band.proofs.quantise.by_sign.Tie as tie
 

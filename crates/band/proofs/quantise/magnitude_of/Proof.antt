@@ -1,7 +1,9 @@
 use lib.IntN.{pos}
 use mathlib.Core.Path.{_∙_}
 use Rattle.fixed.proofs.Wide.{add, from16, lit, narrow-fits, narrow-is, neg, to}
-use Rattle.fixed.proofs.Half.{fits, half, negative, readh, taken}
+use Rattle.fixed.proofs.Half.{half, negative, readh}
+use Rattle.fixed.proofs.Signed.{taken}
+use Rattle.fixed.proofs.Fits.{fits}
 use Rattle.band.specs.Quantise.{magnitude}
 use Rattle.band.proofs.quantise.magnitude_of.Statement.{statement}
 use Rattle.band.proofs.quantise.magnitude_of.Tie as tie

@@ -1,7 +1,8 @@
 use lib.Dec.{lit<}
 use lib.IntN.{pos}
 use Rattle.fixed.proofs.Wide.{from16, lit, mul, shr, tested}
-use Rattle.fixed.proofs.Half.{fits, taken}
+use Rattle.fixed.proofs.Signed.{taken}
+use Rattle.fixed.proofs.Fits.{fits}
 use Rattle.band.specs.Quantise.{placeHigh}
 use Rattle.band.proofs.quantise.place_high.Statement.{statement}
 use Rattle.band.proofs.quantise.place_high.Tie as tie

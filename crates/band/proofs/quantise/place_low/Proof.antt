@@ -7,7 +7,8 @@ use mathlib.Core.Path.{_≡_, _∙_, refl, sym}
 use mir.Syntax.{w16}
 use mir.Val.{toZ}
 use Rattle.fixed.proofs.Wide.{mul, shr, tested}
-use Rattle.fixed.proofs.Half.{entry16, fits, h2, half, wide-h}
+use Rattle.fixed.proofs.Half.{entry16, h2, half, wide-h}
+use Rattle.fixed.proofs.Fits.{fits}
 use Rattle.band.specs.Tables.{Q6}
 use Rattle.band.specs.Quantise.{below, first}
 use Rattle.band.proofs.First.{first-here, first-later, first-none}
@@ -52,7 +53,8 @@ returns c =
     let w = half (s .fits .w) in
     let det = half (s .fits .det) in
     let yes = tested (wide-h w) (shr (mul (wide-h (entry16 Q6 tt (s .pre) (l .i))) (wide-h det) tt) 12 tt) (c .if1 .taken) in
-    (sym (h2 w det (from (30 - l .i) (l .i)) ∙ first-here _ (30 - l .i) (l .i) (omega arith) yes) ∙ l .inv .2 ∙ h2 w det (from 29 1), omega arith)
+    let here = h2 w det (from (30 - l .i) (l .i)) ∙ first-here _ (30 - l .i) (l .i) (omega arith) yes in
+    (sym here ∙ l .inv .2 ∙ h2 w det (from 29 1), omega arith)
 
 add-i : tie.Need-add-i Inv-loop μ-loop
 add-i c = omega arith

@@ -4,7 +4,7 @@ use borrow.Author.Needs.{needs}
 use lib.Dec.{lit≤}
 use lib.IntN.{pos}
 use lib.ListN.{getD}
-use mathlib.Core.Path.{_∙_, ap, refl}
+use mathlib.Core.Path.{_∙_, refl}
 use Rattle.fixed.specs.Number.{minus}
 use Rattle.fixed.proofs.Wide.{E, asks, read}
 use Rattle.fixed.proofs.Half.{entry32, entry-most}
@@ -20,10 +20,11 @@ module _ (c : tie.Start) where
   place = entry-most 2 RH2 tt (c .pre .2) (c .args .ihigh)
 
   quantum : E (minus 7408) (pos 7408) (getD (c .args .qm2 .now) (c .args .ihigh) (pos 0)) (getD QM2 (c .args .ihigh) (pos 0))
-  quantum = entry32 (minus 7408) (pos 7408) QM2 tt tt (c .pre .0) refl
+  quantum = entry32 QM2 (minus 7408) (pos 7408) tt tt (c .pre .0) refl
 
-  step : E (minus 214) (pos 798) (getD (c .args .wh .now) (getD (c .args .rh2 .now) (c .args .ihigh) 0) (pos 0)) (getD WH (getD RH2 (c .args .ihigh) 0) (pos 0))
-  step = entry32 (minus 214) (pos 798) WH tt tt (c .pre .1) (λ t. getD (c .pre .2 t) (c .args .ihigh) 0)
+  step : let i = c .args .ihigh in
+      E (minus 214) (pos 798) (getD (c .args .wh .now) (getD (c .args .rh2 .now) i 0) (pos 0)) (getD WH (getD RH2 i 0) (pos 0))
+  step = entry32 WH (minus 214) (pos 798) tt tt (c .pre .1) (λ t. getD (c .pre .2 t) (c .args .ihigh) 0)
 
 mul-ih2 : tie.Need-mul-ih2
 mul-ih2 c = search needs
@@ -55,8 +56,8 @@ returns c =
     let k = s .args .band in
     c .update .ensures
     ∙ λ t.
-      let nb = LOGSC (pos 22528) (k .nb) (read (step s) t) in
-      BLOCK4 k (INVQ (k .det) (read (quantum s) t)) nb (SCALE 10 nb)
+    let nb = LOGSC (pos 22528) (k .nb) (read (step s) t) in
+    BLOCK4 k (INVQ (k .det) (read (quantum s) t)) nb (SCALE 10 nb)
 
 pub high-update-spec : {M : Type 1} → statement M
 high-update-spec =

@@ -4,7 +4,7 @@ use borrow.Author.Needs.{needs}
 use lib.Dec.{lit≤}
 use lib.IntN.{pos}
 use lib.ListN.{getD}
-use mathlib.Core.Path.{_∙_, ap, refl}
+use mathlib.Core.Path.{_∙_, refl}
 use Rattle.fixed.specs.Number.{minus}
 use Rattle.fixed.proofs.Wide.{E, asks, read}
 use Rattle.fixed.proofs.Half.{entry32, entry-most}
@@ -20,10 +20,11 @@ module _ (c : tie.Start) where
   place = entry-most 7 RL42 tt (c .pre .2) (c .args .ril)
 
   quantum : E (minus 20456) (pos 20456) (getD (c .args .qm4 .now) (c .args .ril) (pos 0)) (getD QM4 (c .args .ril) (pos 0))
-  quantum = entry32 (minus 20456) (pos 20456) QM4 tt tt (c .pre .0) refl
+  quantum = entry32 QM4 (minus 20456) (pos 20456) tt tt (c .pre .0) refl
 
-  step : E (minus 60) (pos 3042) (getD (c .args .wl .now) (getD (c .args .rl42 .now) (c .args .ril) 0) (pos 0)) (getD WL (getD RL42 (c .args .ril) 0) (pos 0))
-  step = entry32 (minus 60) (pos 3042) WL tt tt (c .pre .1) (λ t. getD (c .pre .2 t) (c .args .ril) 0)
+  step : let i = c .args .ril in
+      E (minus 60) (pos 3042) (getD (c .args .wl .now) (getD (c .args .rl42 .now) i 0) (pos 0)) (getD WL (getD RL42 i 0) (pos 0))
+  step = entry32 WL (minus 60) (pos 3042) tt tt (c .pre .1) (λ t. getD (c .pre .2 t) (c .args .ril) 0)
 
 mul-il4 : tie.Need-mul-il4
 mul-il4 c = search needs
@@ -55,8 +56,8 @@ returns c =
     let k = s .args .band in
     c .update .ensures
     ∙ λ t.
-      let nb = LOGSC (pos 18432) (k .nb) (read (step s) t) in
-      BLOCK4 k (INVQ (k .det) (read (quantum s) t)) nb (SCALE 8 nb)
+    let nb = LOGSC (pos 18432) (k .nb) (read (step s) t) in
+    BLOCK4 k (INVQ (k .det) (read (quantum s) t)) nb (SCALE 8 nb)
 
 pub low-update-spec : {M : Type 1} → statement M
 low-update-spec =

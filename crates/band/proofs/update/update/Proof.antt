@@ -57,7 +57,8 @@ returns c =
     let w = var (s .pre .4) tt in
     let q = var (s .pre .3) tt in
     let d = ans (at-d .scaled .ensures) (λ t. INVQ (readh (field s 22) t) (read q t)) (at-d .scaled .ok) in
-    let nb = ans (at-nb .logsc .ensures .is) (λ t. LOGSC (read (var (most-in s) tt) t) (readh (field s 21) t) (read w t)) (at-nb .logsc .ok) in
+    let most = var (most-in s) tt in
+    let nb = ans (at-nb .logsc .ensures .is) (λ t. LOGSC (read most t) (readh (field s 21) t) (read w t)) (at-nb .logsc .ok) in
     let det = ans (at-det .scale .ensures) (h1 nb (SCALE (s .args .base))) (at-det .scale .ok) in
     c .block4 .ensures ∙ λ t. BLOCK4 (s .args .band) (readh d t) (readh nb t) (readh det t)
 

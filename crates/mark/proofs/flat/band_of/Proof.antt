@@ -12,7 +12,7 @@ use lib.ListN.{getD}
 use mir.Syntax.{w16}
 use mir.Val.{Val, SFits, toZ, ofZ}
 use mir.Facts.{toZ-ofZ}
-use Rattle.mark.specs.Numbers.{bandOf}
+use Rattle.band.specs.Bounds.{bandOf}
 use Rattle.mark.proofs.flat.band_of.Statement.{statement}
 use Rattle.mark.proofs.flat.band_of.Tie as tie
 
@@ -96,7 +96,6 @@ array-copy-out-t71 : tie.Need-array-copy-out-t71
 array-copy-out-t71 c = lit< tt
 
 returns : tie.Need-returns
-unfolding bandOf
 returns c =
     let middle = c .before .before .before .before .before .before .before .before .before .before .before .before in
     let at = read (middle .before .before .before .before .before .before .before .before .before .before .before) in

@@ -1,5 +1,5 @@
 -- The invariant: each sum so far is that of the products so far.
-use Prim.Native.Nat.{ℕ, _+_, _-_, _*_, _≤_}
+use Prim.Native.Nat.{_+_, _-_, _*_, _≤_}
 use native.Mathlib.Numerals.{add-one}
 use native.Mathlib.Omega.{arith}
 use borrow.Author.Needs.{sfits-of}
@@ -11,7 +11,8 @@ use mathlib.Core.Path.{_≡_, _∙_, ap, sym}
 use mir.Syntax.{w32}
 use mir.Val.{ofZ}
 use Rattle.fixed.proofs.Wide.{add, gives, mul, to, var}
-use Rattle.fixed.proofs.Half.{entry16, fits, half, wide-h}
+use Rattle.fixed.proofs.Half.{entry16, half, wide-h}
+use Rattle.fixed.proofs.Fits.{fits}
 use Rattle.band.specs.Tables.{QMF-COEFFS}
 use Rattle.band.specs.Bounds.{allWords}
 use Rattle.band.proofs.Boxes.{array-words}
