@@ -4,7 +4,7 @@
 set -eu
 [ "$(uname -m)" != x86_64 ] || exit 0
 if [ -d "$(/usr/bin/rustc --print target-libdir --target x86_64-unknown-linux-gnu 2>/dev/null || echo none)" ] \
-    && command -v qemu-x86_64 x86_64-linux-gnu-gcc >/dev/null; then
+    && command -v qemu-x86_64 >/dev/null && command -v x86_64-linux-gnu-gcc >/dev/null; then
     exit 0
 fi
 echo 'installing the tools to build and run x86-64 programs on this machine'

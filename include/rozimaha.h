@@ -5,14 +5,15 @@
  * Each call answers a number; docs/RULES.md, "Answers", says more:
  *   0  done: the results are the first bytes of each output; what lies past them is as it was
  *   1  a start that is neither 0 nor 1
- *   3  an odd count of bytes where samples are read; in G.722 encoding also an odd count of samples, but at rate 8000
- *   4  an output is shorter than what is written into it
+ *   3  an odd count of bytes where samples are read; in G.722 encoding also an odd count of samples, except at rate 8000
+ *   4  an output is shorter than what is written into it, or fewer than ROZIMAHA_MARK_LENGTH bytes are lent for a new mark
  *   5  the session's position would pass 4294967295
  *   6  the mark is no mark line
  *   7  the mark is that of the other kind of session
  *   8  a number of the mark is outside its bounds
- * Any number but 0 leaves every output as it was. Where several apply, 6, 7 and 8 come before 3, 3 before 4, 4 before 5.
- * An empty input is done, whatever the room.
+ * Any number but 0 leaves every output as it was. Where several apply, 1 comes before 4 in the calls that begin; in the
+ * others 6 comes before 7, 7 before 8, 8 before 3, 3 before 4, 4 before 5. An empty input needs no room in `out`; a G.722
+ * call still needs a sound mark, and room for the new one.
  *
  * The caller must ensure that each pointer is valid for its count of bytes (it must not be null, even for a count of 0)
  * and that no output overlaps an input or another output, old and new mark included. Nothing is kept between calls, so

@@ -33,20 +33,37 @@ fn square(at: usize, period: usize, loud: i16) -> i16 {
 
 const LIKELY: &[u8] = b"0123456789-\t\n\r +EDZS";
 
-// The line with one to three bytes changed, taken away or put in, a field doubled, or a number far out of bounds.
+// The line with one to three changes: a byte changed, taken away or put in, a field doubled, a digit put before a number, the end cut
+// off or a newline added.
 pub fn damaged(noise: &mut Noise, line: &[u8]) -> Vec<u8> {
     let mut text = line.to_vec();
     for _ in 0..1 + noise.next() % 3 {
         let at = (noise.next() % text.len().max(1) as u64) as usize;
         let byte = LIKELY[(noise.next() % LIKELY.len() as u64) as usize];
         match noise.next() % 8 {
-            0 | 1 | 2 if at < text.len() => text[at] = byte,
-            3 if at < text.len() => drop(text.remove(at)),
-            4 => text.truncate(at),
-            5 => text.insert(at, (noise.next() >> 20) as u8),
-            6 => text.extend_from_slice(b"\n"),
-            _ => text.insert(at, byte),
+            0 | 1 if at < text.len() => text[at] = byte,
+            2 if at < text.len() => drop(text.remove(at)),
+            3 => text.truncate(at),
+            4 => text.insert(at, (noise.next() >> 20) as u8),
+            5 => text.extend_from_slice(b"\n"),
+            6 => double_field(&mut text, at),
+            _ => put_digit(&mut text, at, byte),
         }
     }
     text
+}
+
+// Doubles the field that follows the first tab from `at` on.
+fn double_field(text: &mut Vec<u8>, at: usize) {
+    if let Some(tab) = text[at..].iter().position(|&byte| byte == b'\t').map(|ahead| at + ahead) {
+        let field: Vec<u8> = text[tab..].iter().enumerate().take_while(|&(i, &byte)| i == 0 || byte > b'\n').map(|(_, &byte)| byte).collect();
+        text.splice(tab..tab, field);
+    }
+}
+
+// Puts a digit, or another byte, at the front of the field that follows the first tab from `at` on.
+fn put_digit(text: &mut Vec<u8>, at: usize, byte: u8) {
+    if let Some(ahead) = text[at..].iter().position(|&byte| byte == b'\t') {
+        text.insert(at + ahead + 1, byte);
+    }
 }
