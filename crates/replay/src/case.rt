@@ -194,7 +194,7 @@ fn run_code(line: &[u8], mark: &mut [u8], before: Tally) -> Tally {
 }
 
 // Lines that are empty or begin with # say nothing. `mark` has the mark that the last G.722 case left.
-pub fn run_line(line: &[u8], mark: &mut [u8], before: Tally) -> Tally {
+pub(crate) fn run_line(line: &[u8], mark: &mut [u8], before: Tally) -> Tally {
     if line.len() == 0 {
         return before;
     }

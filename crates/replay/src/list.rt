@@ -76,7 +76,7 @@ fn run_piece(file: i32, text: &mut [u8], held: usize, mark: &mut [u8], before: T
 }
 
 // A loop that is proved has to end, so it counts down from a number that no list uses up.
-pub fn run(file: i32, text: &mut [u8], mark: &mut [u8], before: Tally) -> Tally {
+pub(crate) fn run(file: i32, text: &mut [u8], mark: &mut [u8], before: Tally) -> Tally {
     let mut tally = before;
     let mut held = 0;
     let mut pieces = u64::MAX;

@@ -3,7 +3,7 @@ ghost use Prim.Native.Nat.{_≤_, _<_};
 ghost use lib.ListN.{length};
 
 // The first place from `at` on where `byte` stands, or the end.
-pub fn place_of(text: &[u8], at: usize, byte: u8) -> usize
+pub(crate) fn place_of(text: &[u8], at: usize, byte: u8) -> usize
     requires { ⌜ at ≤ length (now text) ⌝ }
     ensures { λ r. ⌜ (at ≤ r) × (r ≤ length (now (text .entry))) ⌝ }
 {
@@ -34,7 +34,7 @@ fn word_start(line: &[u8], skipped: usize) -> usize
     at
 }
 
-pub fn word(line: &[u8], skipped: usize) -> &[u8] {
+pub(crate) fn word(line: &[u8], skipped: usize) -> &[u8] {
     let start = word_start(line, skipped);
     let end = place_of(line, start, b' ');
     &line[start..end]
@@ -55,14 +55,14 @@ fn byte(high: u8, low: u8) -> u8 {
     nibble(high) * 16 + nibble(low)
 }
 
-pub fn least(a: usize, b: usize) -> usize
+pub(crate) fn least(a: usize, b: usize) -> usize
     ensures { λ r. ⌜ (r ≤ a) × (r ≤ b) ⌝ }
 {
     if a < b { a } else { b }
 }
 
 // Puts the bytes that a word says at the front of `out`, as many as it holds, and answers how many.
-pub fn bytes(word: &[u8], out: &mut [u8]) -> usize
+pub(crate) fn bytes(word: &[u8], out: &mut [u8]) -> usize
     ensures { λ r. ⌜ r ≤ length (now (out .exit)) ⌝ }
 {
     let n = least(word.len() / 2, out.len());
@@ -75,7 +75,7 @@ pub fn bytes(word: &[u8], out: &mut [u8]) -> usize
 }
 
 // The number that a word's decimal digits say, below a million.
-pub fn number(word: &[u8]) -> usize
+pub(crate) fn number(word: &[u8]) -> usize
     ensures { λ r. ⌜ r < 1000000 ⌝ }
 {
     let mut value: usize = 0;
@@ -87,12 +87,12 @@ pub fn number(word: &[u8]) -> usize
     value
 }
 
-pub fn number32(word: &[u8]) -> u32 {
+pub(crate) fn number32(word: &[u8]) -> u32 {
     number(word) as u32
 }
 
 // Copies as much of `from` as `to` holds.
-pub fn copy(from: &[u8], to: &mut [u8]) {
+pub(crate) fn copy(from: &[u8], to: &mut [u8]) {
     let n = least(from.len(), to.len());
     let mut i = 0;
     while i < n {
