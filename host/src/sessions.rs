@@ -112,8 +112,8 @@ impl Life {
         (number, out, new_mark)
     }
 
-    // One call that should be done, on both sides; the life goes on from the new mark.
-    fn go(&mut self, input: &[u8], beyond: usize, tally: &mut Tally) -> Result<(), String> {
+    // One call that should be done, on both sides; the life goes on from the new mark. Hands back what was given out.
+    fn go(&mut self, input: &[u8], beyond: usize, tally: &mut Tally) -> Result<Vec<u8>, String> {
         let mut moved_on = self.original.again();
         let (given, moved) = Self::run(&mut moved_on, self.kind, input);
         let room = given.len() + beyond;
@@ -131,7 +131,7 @@ impl Life {
             Kind::Encoder => tally.samples_encoded += moved,
             Kind::Decoder => tally.bytes_decoded += input.len() as u64,
         }
-        Ok(())
+        Ok(given)
     }
 
     // A call that should be refused: nothing may be written.
@@ -186,8 +186,9 @@ fn short_inputs(tally: &mut Tally) -> Result<(), String> {
     })
 }
 
-// Long lives over one kind of signal after another, cut at random, with refusals on the way.
-fn long_lives(kind: Kind, noise: &mut Noise, tally: &mut Tally) -> Result<(), String> {
+// Long lives over one kind of signal after another, cut at random, with refusals on the way. The encoders' bytes are put into `coded`,
+// and the decoders take from there.
+fn long_lives(kind: Kind, coded: &mut Vec<u8>, noise: &mut Noise, tally: &mut Tally) -> Result<(), String> {
     let items = CODED_ITEMS / (RATES.len() * STARTS.len());
     each_start(|rate, start| {
         let mut life = Life::begin(kind, rate, start)?;
@@ -196,10 +197,13 @@ fn long_lives(kind: Kind, noise: &mut Noise, tally: &mut Tally) -> Result<(), St
             let count = 2 * (noise.next() % (LONGEST_CALL / 2)) as usize;
             let input = match kind {
                 Kind::Encoder => bytes_of(&signals::samples(noise, count)),
-                Kind::Decoder => noise.bytes(count),
+                Kind::Decoder => signals::bytes(noise, coded, count),
             };
             refusals(&life, &input, tally)?;
-            life.go(&input, (noise.next() % 3) as usize, tally)?;
+            let given = life.go(&input, (noise.next() % 3) as usize, tally)?;
+            if kind == Kind::Encoder {
+                coded.extend(given);
+            }
             done += count;
         }
         println!("  rate {rate}, start {start}: {done} items, position {}", life.position);
@@ -298,14 +302,15 @@ fn beginnings(tally: &mut Tally) -> Result<(), String> {
 pub fn compare() -> Result<Tally, String> {
     let mut tally = Tally::default();
     let mut noise = Noise::new(0x5DEE_CE66_D1CE_4E5B);
+    let mut coded = Vec::new();
     println!("G.722: beginnings");
     beginnings(&mut tally)?;
     println!("G.722: every first byte and every two bytes, both rates, both starts");
     short_inputs(&mut tally)?;
     println!("G.722: encoding noise, sweeps, squares, silence and extremes, cut at random");
-    long_lives(Kind::Encoder, &mut noise, &mut tally)?;
-    println!("G.722: decoding noise, cut at random");
-    long_lives(Kind::Decoder, &mut noise, &mut tally)?;
+    long_lives(Kind::Encoder, &mut coded, &mut noise, &mut tally)?;
+    println!("G.722: decoding what that gave, noise, and one byte over and over, cut at random");
+    long_lives(Kind::Decoder, &mut coded, &mut noise, &mut tally)?;
     println!("G.722: positions close to {POSITION_MOST}");
     last_positions(&mut noise, &mut tally)?;
     println!("G.722: damaged marks");

@@ -17,6 +17,18 @@ pub fn samples(noise: &mut Noise, count: usize) -> Vec<i16> {
         .collect()
 }
 
+// A run of bytes: noise, one byte over and over, or a part of what an encoder gave.
+pub fn bytes(noise: &mut Noise, coded: &[u8], count: usize) -> Vec<u8> {
+    match noise.next() % 4 {
+        0 => noise.bytes(count),
+        1 => vec![(noise.next() >> 32) as u8; count],
+        _ => {
+            let at = (noise.next() % (coded.len() - count) as u64) as usize;
+            coded[at..at + count].to_vec()
+        }
+    }
+}
+
 // From low to half the sampling rate over the run.
 fn sweep(at: usize, count: usize, loud: f64) -> i16 {
     let turns = (at * at) as f64 / (4.0 * count as f64);

@@ -48,7 +48,7 @@ pub extern "C" fn rozimaha_pcma_decode(input: &[u8], out: &mut [u8]) -> u32
 const FRESH_RATE: u32 = 16000;
 
 // The bytes that must be lent for a new mark, however long its line is.
-const MARK_ROOM: usize = 512;
+const MARK_ROOM: usize = Encoder::MARK_LENGTH_MOST;
 
 // The number of a G.722 call, from restore's, from whether a sample lacks its second byte, and from the coder's.
 fn call_number(restored: u8, half: bool, coded: u8, room: usize) -> u8

@@ -7,6 +7,7 @@ use mathlib.Core.List.{List}
 use lib.IntN.{ℤ}
 use lib.ListN.{length}
 use lib.Seq.{sets}
+use lib.Dec.{lit<}
 use borrow.Author.Tests.{ltb-false, le-ltb, not-false, ne-eqb}
 use Rattle.answers.specs.Numbers.{done}
 use Rattle.g722.specs.declared.Encoder.{Encoder}
@@ -31,10 +32,10 @@ module _ (s : Encoder) (n room : ℕ) where
   pub encode-taken : encodeNumber s n room ≡ done → EncodeTaken s n room
   unfolding encodeNumber
   encode-taken e =
-      let a = passed _ 2 _ (omega arith) e in
-      let b = passed _ 3 _ (omega arith) (a .1) in
-      let c = passed _ 4 _ (omega arith) (b .1) in
-      let d = passed _ 5 _ (omega arith) (c .1) in
+      let a = passed _ 2 _ (lit< tt) e in
+      let b = passed _ 3 _ (lit< tt) (a .1) in
+      let c = passed _ 4 _ (lit< tt) (b .1) in
+      let d = passed _ 5 _ (lit< tt) (c .1) in
       record { inside = not-false _ (a .0); even = b .0; roomy = ltb-false _ _ (c .0); not-past = ltb-false _ _ (d .0) }
 
   pub taken-encodes : EncodeTaken s n room → encodeNumber s n room ≡ done
@@ -62,9 +63,9 @@ module _ (s : Decoder) (n room : ℕ) where
   pub decode-taken : decodeNumber s n room ≡ done → DecodeTaken s n room
   unfolding decodeNumber
   decode-taken e =
-      let a = passed _ 2 _ (omega arith) e in
-      let b = passed _ 4 _ (omega arith) (a .1) in
-      let c = passed _ 5 _ (omega arith) (b .1) in
+      let a = passed _ 2 _ (lit< tt) e in
+      let b = passed _ 4 _ (lit< tt) (a .1) in
+      let c = passed _ 5 _ (lit< tt) (b .1) in
       record { inside = not-false _ (a .0); roomy = ltb-false _ _ (b .0); not-past = ltb-false _ _ (c .0) }
 
   pub taken-decodes : DecodeTaken s n room → decodeNumber s n room ≡ done

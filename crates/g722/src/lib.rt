@@ -5,7 +5,6 @@ mod starts;
 
 use band::Filters;
 ghost use mathlib.Core.Path.{_≡_};
-ghost use Prim.Native.Nat.{_<_, _^_};
 ghost use lib.ListN.{length};
 ghost use Rattle.g722.specs.Encoding.{encoderBegun, encoderInBounds, encodeNumber, encodeAnswer, encodeOut};
 ghost use Rattle.g722.specs.Decoding.{decoderBegun, decoderInBounds, decodeNumber, decodeAnswer, decodeOut};
@@ -159,17 +158,16 @@ impl Decoder {
 
     // The number that n bytes and room for so many samples are answered with.
     pub fn decode_number(self, n: usize, room: usize) -> u8
-        requires { ⌜ n < 2 ^ 63 ⌝ }
         ensures { λ r. ⌜ r ≡ decodeNumber self n room ⌝ }
     {
         if !self.in_bounds() {
             return answers::OUT_OF_BOUNDS;
         }
-        if room < rates::decode_room(self.rate, n) {
+        if rates::decode_overfills(self.rate, n, room) {
             return answers::NO_ROOM;
         }
         let left = (Decoder::POSITION_MOST - self.position) as usize;
-        if left < rates::decoder_moves(self.rate, n) {
+        if rates::decoder_passes(self.rate, n, left) {
             return answers::POSITION_PAST_END;
         }
         answers::DONE

@@ -2,6 +2,7 @@
 ghost use mathlib.Core.Bool.{cond};
 ghost use mathlib.Core.Path.{_≡_};
 ghost use Prim.Native.Nat.{_<_, _^_};
+ghost use lib.Dec.{ltb};
 ghost use Rattle.g722.specs.Rates.{encodeRoom, decodeRoom, encoderMoves, decoderMoves, oddAt, resamples};
 
 // The rate at which one sample goes with a byte.
@@ -41,6 +42,23 @@ pub(crate) fn decoder_moves(rate: u32, n: usize) -> usize
     ensures { λ r. ⌜ r ≡ decoderMoves rate n ⌝ }
 {
     decode_room(rate, n)
+}
+
+// Whether n bytes give more samples than there is room for. Of every n: twice it need not be a usize.
+pub(crate) fn decode_overfills(rate: u32, n: usize, room: usize) -> bool
+    ensures { λ r. ⌜ r ≡ ltb room (decodeRoom rate n) ⌝ }
+{
+    if rate == RESAMPLED {
+        return room < n;
+    }
+    room / 2 < n
+}
+
+// Whether n bytes move a decoder's position further than there is left.
+pub(crate) fn decoder_passes(rate: u32, n: usize, left: usize) -> bool
+    ensures { λ r. ⌜ r ≡ ltb left (decoderMoves rate n) ⌝ }
+{
+    decode_overfills(rate, n, left)
 }
 
 // Whether n samples leave one that has no pair.

@@ -12,7 +12,7 @@ ghost use Rattle.mark.specs.Either.{lineAnswer, refusedWith, saidBy, rea
 
 const RATE_MOST: i64 = 4294967295;
 
-const POSITION_MOST: i64 = 4294967295;
+const POSITION_MOST: i64 = g722::Encoder::POSITION_MOST as i64;
 
 fn letter_of(start: u8) -> u8
     ensures { λ r. ⌜ r ≡ letterOf start ⌝ }

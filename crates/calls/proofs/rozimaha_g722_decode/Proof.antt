@@ -43,7 +43,7 @@ rozimaha-g722-decode-spec =
     tie.close
     (tie.spec
     (λ c κs. tt)
-    (λ c κs. search needs)
+    (λ c κs. tt)
     (λ c κs. tt)
     (λ c. search needs)
     (λ c. decode-refused (call (c .before)) (c .if1 .taken))

@@ -20,7 +20,7 @@ taken : (c : tie.Else1) → let a = c .before .before .before .args in DecodeTak
 taken c = decode-taken _ _ _ (is-done c)
 
 decode-number-requires : tie.Need-decode-number-requires
-decode-number-requires c κs = search needs
+decode-number-requires c κs = tt
 
 returns : tie.Need-returns
 returns c =
