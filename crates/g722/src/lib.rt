@@ -6,6 +6,7 @@ mod starts;
 use band::Filters;
 ghost use mathlib.Core.Path.{_≡_};
 ghost use lib.ListN.{length};
+ghost use Rattle.answers.specs.Numbers.{done};
 ghost use Rattle.g722.specs.Encoding.{encoderBegun, encoderInBounds, encodeNumber, encodeAnswer, encodeOut};
 ghost use Rattle.g722.specs.Decoding.{decoderBegun, decoderInBounds, decodeNumber, decodeAnswer, decodeOut};
 
@@ -107,6 +108,16 @@ impl Encoder {
                 session: self,
             };
         }
+        self.encode_accepted(input, out)
+    }
+
+    // `encode` of samples that are not refused. Who codes by pieces asks for the number once: tests in such a loop would
+    // make it look cold to the compiler, and it would no longer inline the update.
+    pub fn encode_accepted(self, input: &[i16], out: &mut [u8]) -> EncoderAnswer
+        requires { ⌜ encodeNumber self (length (now input)) (length (now out)) ≡ done ⌝ }
+        ensures answer { λ r. ⌜ r ≡ encodeAnswer self (now (input .entry)) (length (now (out .entry))) ⌝ }
+        ensures written { λ _. ⌜ now (out .exit) ≡ encodeOut self (now (input .entry)) (now (out .entry)) ⌝ }
+    {
         let rate = self.rate;
         let f = self.filters;
         let coded = runs::encode_run(rate, input, out, f);
@@ -185,6 +196,16 @@ impl Decoder {
                 session: self,
             };
         }
+        self.decode_accepted(input, out)
+    }
+
+    // `decode` of bytes that are not refused. Who codes by pieces asks for the number once: tests in such a loop would
+    // make it look cold to the compiler, and it would no longer inline the update.
+    pub fn decode_accepted(self, input: &[u8], out: &mut [i16]) -> DecoderAnswer
+        requires { ⌜ decodeNumber self (length (now input)) (length (now out)) ≡ done ⌝ }
+        ensures answer { λ r. ⌜ r ≡ decodeAnswer self (now (input .entry)) (length (now (out .entry))) ⌝ }
+        ensures written { λ _. ⌜ now (out .exit) ≡ decodeOut self (now (input .entry)) (now (out .entry)) ⌝ }
+    {
         let rate = self.rate;
         let f = self.filters;
         let decoded = runs::decode_run(rate, input, out, f);

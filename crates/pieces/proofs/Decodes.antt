@@ -85,6 +85,12 @@ module _ {s₀ : Decoder} {input out₀ : List ℕ} {s : Decoder} {out : List �
         written = puts (bytes (decodedSamples s part)) _ long (rw (cut, bytes-apart) at (w .written));
       }
 
+  small : (room : ℕ) → most ≤ room → decodeRoom (s .rate) (length part) ≤ room
+  small room enough = omega (arith, mid-len i end input end-within, room-le (s .rate) (length part))
+
+  pub accepted : (room : ℕ) → most ≤ room → decodeNumber s (length part) room ≡ done
+  accepted room enough = decode-first s part rest _ whole room (small room enough)
+
   -- what the call on the part answers, and leaves of the piece
   pub record Decoded (piece : List ℤ) (r : DecoderAnswer) (left : List ℤ) : Type 0 where
     pub session : r .session ≡ decoderAfter s part
@@ -97,9 +103,7 @@ module _ {s₀ : Decoder} {input out₀ : List ℕ} {s : Decoder} {out : List �
   pub decoded : {piece : List ℤ} {r : DecoderAnswer} {left : List ℤ} → most ≤ length piece → r ≡ decodeAnswer s part (length piece)
       → left ≡ decodeOut s part piece → Decoded piece r left
   decoded {piece} {r} {left} enough answered written =
-      let few = room-le (s .rate) (length part) in
-      let small : decodeRoom (s .rate) (length part) ≤ length piece = omega (arith, mid-len i end input end-within) in
-      let d = decode-done s part piece (decode-first s part rest _ whole (length piece) small) in
+      let d = decode-done s part piece (accepted (length piece) enough) in
       let a : r ≡ decoderReply done (decodeRoom (s .rate) (length part)) (decoderAfter s part) = answered ∙ sym (d .0) in
       let count = ap (λ (x : DecoderAnswer). x .count) a in
       let front = written ∙ sym (d .1) in
@@ -107,8 +111,8 @@ module _ {s₀ : Decoder} {input out₀ : List ℕ} {s : Decoder} {out : List �
       record {
         session = ap (λ (x : DecoderAnswer). x .session) a;
         count = count;
-        kept = rw (count, front, sets-eq (decodedSamples s part) piece 0 (omega arith)) (take-at _ _ _ all);
-        held = rw (count, front, length-sets) small;
+        kept = rw (count, front, sets-eq (decodedSamples s part) piece 0 (omega (arith, small (length piece) enough))) (take-at _ _ _ all);
+        held = rw (count, front, length-sets) (small (length piece) enough);
         long = rw front (length-sets piece 0 (decodedSamples s part));
         room = rw count (omega (arith, roomy, part-length o out));
       }

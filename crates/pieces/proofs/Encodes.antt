@@ -117,7 +117,10 @@ module _ {s₀ : Encoder} {input out₀ : List ℕ} {s : Encoder} {out : List �
         written = puts (encodedBytes s piece) _ (encoded-length s piece) (rw (cut, encoded-cut s piece rest pairs) at (w .written));
       }
 
-  -- the samples of the piece stand before others; the call on them is done
+  accepted : encodeNumber s (length piece) (length (partOf o out)) ≡ done
+  accepted = encode-first s piece rest (length out - o) pairs whole (length (partOf o out)) (omega (arith, roomy, part-length o out))
+
+  -- the samples of the piece stand before others; the call on them is accepted
   module _ {unpacked : List ℤ} (more : List ℤ) (is : unpacked ≡ piece) where
     front : take n (unpacked ++ more) ≡ piece
     front = rw is (take-at piece more n piece-long)
@@ -125,13 +128,14 @@ module _ {s₀ : Encoder} {input out₀ : List ℕ} {s : Encoder} {out : List �
     pub front-long : length (take n (unpacked ++ more)) ≡ n
     front-long = ap length front ∙ piece-long
 
+    pub front-accepted : encodeNumber s (length (take n (unpacked ++ more))) (length (partOf o out)) ≡ done
+    front-accepted = rw front accepted
+
     pub encodes-more : {r : EncoderAnswer} {left : List ℕ} → r ≡ encodeAnswer s (take n (unpacked ++ more)) (length (partOf o out))
         → left ≡ encodeOut s (take n (unpacked ++ more)) (partOf o out)
         → Encodes s₀ input out₀ (r .session) (putPart o out left) end (o + r .count)
     encodes-more answered written =
-        let room = part-length o out in
-        let first = encode-first s piece rest (length out - o) pairs whole (length (partOf o out)) (omega (arith, roomy)) in
-        let d = encode-done s piece (partOf o out) first in
+        let d = encode-done s piece (partOf o out) accepted in
         rw (answered, written, front, sym (d .0), sym (d .1), sets-part o out (encodedBytes s piece) (w .inside)) next
 
 -- ---- the end

@@ -62,7 +62,7 @@ fn encode_by(piece: &mut [i16], input: &[u8], out: &mut [u8], session: Encoder) 
         let n = least(piece.len(), (input.len() - i) / 2);
         let end = i + 2 * n;
         unpack(&input[i..end], &mut piece[..n]);
-        let encoded = s.encode(&piece[..n], &mut out[o..]);
+        let encoded = s.encode_accepted(&piece[..n], &mut out[o..]);
         s = encoded.session;
         o += encoded.count;
         i = end;
@@ -93,7 +93,7 @@ fn decode_by(piece: &mut [i16], input: &[u8], out: &mut [u8], session: Decoder) 
     while i < input.len() {
         let n = least(piece.len() / 2, input.len() - i);
         let end = i + n;
-        let decoded = s.decode(&input[i..end], piece);
+        let decoded = s.decode_accepted(&input[i..end], piece);
         s = decoded.session;
         let count = decoded.count;
         pack(&piece[..count], &mut out[o..]);

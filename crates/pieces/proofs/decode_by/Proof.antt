@@ -6,7 +6,7 @@ use lib.ListN.{length}
 use lib.Seq.{length-take-le}
 use borrow.Author.Needs.{needs}
 use Rattle.pieces.proofs.Lists.{part-length}
-use Rattle.pieces.proofs.Decodes.{Decodes, Decoded, decodes-none, decoded, decodes-more, decodes-all}
+use Rattle.pieces.proofs.Decodes.{Decodes, Decoded, decodes-none, accepted, decoded, decodes-more, decodes-all}
 use Rattle.pieces.proofs.decode_by.Statement.{statement}
 use Rattle.pieces.proofs.decode_by.Tie as tie
 
@@ -19,15 +19,20 @@ abbrev μ-loop : tie.MeasureT-loop
 room : (c : tie.Start Inv-loop μ-loop) → length (c .args .out .now) < 2 ^ 63
 room c = search needs
 
+decode-accepted-requires : tie.Need-decode-accepted-requires Inv-loop μ-loop
+decode-accepted-requires c κs =
+    let l = c .before .before in
+    accepted (l .before .before .loop .inv .1) _ (l .least .ensures) _ (omega arith)
+
 -- what a turn's call answers and leaves
-turned : (c : tie.After-decode Inv-loop μ-loop) → let l = c .before .before .before in let h = l .before .before in
-    Decoded (h .loop .inv .1) (length (h .loop .piece)) (l .least .ensures) (h .loop .piece) (c .decode .result) (c .decode .last .1 .1 .0)
+turned : (c : tie.After-decode-accepted Inv-loop μ-loop) → let l = c .before .before .before in let h = l .before .before in
+    Decoded (h .loop .inv .1) (length (h .loop .piece)) (l .least .ensures) (h .loop .piece) (c .decode-accepted .result) (c .decode-accepted .last .1 .1 .0)
 turned c =
     let l = c .before .before .before in
-    decoded (l .before .before .loop .inv .1) _ (l .least .ensures) (omega arith) (c .decode .ensures .0) (c .decode .ensures .1)
+    decoded (l .before .before .loop .inv .1) _ (l .least .ensures) (omega arith) (c .decode-accepted .ensures .0) (c .decode-accepted .ensures .1)
 
-next-place : (c : tie.After-decode Inv-loop μ-loop)
-    → c .before .before .before .before .before .loop .o + 2 * c .decode .result .count < 2 ^ 63
+next-place : (c : tie.After-decode-accepted Inv-loop μ-loop)
+    → c .before .before .before .before .before .loop .o + 2 * c .decode-accepted .result .count < 2 ^ 63
 next-place c =
     let h = c .before .before .before .before .before in
     let w = h .loop .inv .1 in
@@ -58,7 +63,7 @@ decode-by-spec =
     (λ c. search needs)
     (λ c. search needs)
     (λ c. search needs)
-    (λ c κs. tt)
+    decode-accepted-requires
     (λ c. turned (c .before .before) .held)
     (λ c. sym (length-take-le _ _ (turned (c .before .before .before) .held)))
     (λ c. search needs)

@@ -7,7 +7,7 @@ use lib.ListN.{length, drop, length-append, length-drop}
 use lib.Seq.{length-take-le}
 use borrow.Author.Needs.{needs}
 use Rattle.pieces.proofs.Lists.{putPart, samples-words}
-use Rattle.pieces.proofs.Encodes.{Encodes, encodes-none, part-long, piece-long, front-long, encodes-more, encodes-all}
+use Rattle.pieces.proofs.Encodes.{Encodes, encodes-none, part-long, piece-long, front-long, front-accepted, encodes-more, encodes-all}
 use Rattle.pieces.proofs.encode_by.Statement.{statement}
 use Rattle.pieces.proofs.encode_by.Tie as tie
 
@@ -40,12 +40,19 @@ unpack-requires c κs =
     let taken = length-take-le (l .least .result) (h .loop .piece) (held l) in
     part-long (h .loop .inv .1) _ (even h) (l .least .ensures) ∙ sym (ap (λ n. 2 * n) taken)
 
-slice-aggregate-encode : tie.Need-slice-aggregate-encode Inv-loop μ-loop
-slice-aggregate-encode c =
+slice-aggregate-encode-accepted : tie.Need-slice-aggregate-encode-accepted Inv-loop μ-loop
+slice-aggregate-encode-accepted c =
     let u = c .before .before in
     let l = u .before .before .before in
     let h = l .before .before in
     sym (front-long (h .loop .inv .1) _ (even h) (l .least .ensures) _ (u .unpack .ensures))
+
+encode-accepted-requires : tie.Need-encode-accepted-requires Inv-loop μ-loop
+encode-accepted-requires c κs =
+    let u = c .before .before .before in
+    let l = u .before .before .before in
+    let h = l .before .before in
+    front-accepted (h .loop .inv .1) _ (even h) (l .least .ensures) _ (u .unpack .ensures)
 
 -- the piece keeps its length
 long : (c : tie.After-unpack Inv-loop μ-loop) → let l = c .before .before .before in let h = l .before .before in
@@ -56,16 +63,16 @@ long c =
     let unpacked = ap length (c .unpack .ensures) ∙ piece-long (h .loop .inv .1) _ (even h) (l .least .ensures) in
     simp (length-append, length-drop) (omega (arith, unpacked, held l, h .loop .inv .0))
 
-turned : (c : tie.After-encode Inv-loop μ-loop) → let l = c .before .before .before .before .before .before .before in
+turned : (c : tie.After-encode-accepted Inv-loop μ-loop) → let l = c .before .before .before .before .before .before .before in
     let h = l .before .before in let a = h .before .before .before .args in
-    Encodes (a .session) (a .input .now) (a .out .now) (c .encode .result .session)
-    (putPart (h .loop .o) (h .loop .out) (c .encode .last .1 .1 .0))
-    (h .loop .i + 2 * l .least .result) (h .loop .o + c .encode .result .count)
+    Encodes (a .session) (a .input .now) (a .out .now) (c .encode-accepted .result .session)
+    (putPart (h .loop .o) (h .loop .out) (c .encode-accepted .last .1 .1 .0))
+    (h .loop .i + 2 * l .least .result) (h .loop .o + c .encode-accepted .result .count)
 turned c =
     let u = c .before .before .before .before in
     let l = u .before .before .before in
     let h = l .before .before in
-    encodes-more (h .loop .inv .1) _ (even h) (l .least .ensures) _ (u .unpack .ensures) (c .encode .ensures .0) (c .encode .ensures .1)
+    encodes-more (h .loop .inv .1) _ (even h) (l .least .ensures) _ (u .unpack .ensures) (c .encode-accepted .ensures .0) (c .encode-accepted .ensures .1)
 
 add-o : tie.Need-add-o Inv-loop μ-loop
 add-o c =
@@ -104,11 +111,11 @@ encode-by-spec =
     (λ c. sym (length-take-le _ _ (held (c .before .before))))
     unpack-requires
     (λ c. search needs)
-    slice-aggregate-encode
+    slice-aggregate-encode-accepted
     (λ c. search needs)
     (λ c. search needs)
     (λ c. search needs)
-    (λ c κs. tt)
+    encode-accepted-requires
     add-o
     (λ c. shorter (c .before .before .before .before .before .before .before .before .before .before .before))
     loop-again
