@@ -44,7 +44,7 @@ pub(crate) fn decoder_moves(rate: u32, n: usize) -> usize
     decode_room(rate, n)
 }
 
-// Whether n bytes give more samples than there is room for. Of every n: twice it need not be a usize.
+// Whether n bytes give more samples than there is room for; also where twice n is no usize.
 pub(crate) fn decode_overfills(rate: u32, n: usize, room: usize) -> bool
     ensures { λ r. ⌜ r ≡ ltb room (decodeRoom rate n) ⌝ }
 {
