@@ -111,8 +111,8 @@ impl Encoder {
         self.encode_accepted(input, out)
     }
 
-    // `encode` of samples that are not refused. Who codes by pieces asks for the number once: tests in such a loop would
-    // make it look cold to the compiler, and it would no longer inline the update.
+    // `encode` of samples that are not refused, for who codes by pieces and asks for the number once: with the tests in that
+    // loop the compiler does not inline the update.
     pub fn encode_accepted(self, input: &[i16], out: &mut [u8]) -> EncoderAnswer
         requires { ⌜ encodeNumber self (length (now input)) (length (now out)) ≡ done ⌝ }
         ensures answer { λ r. ⌜ r ≡ encodeAnswer self (now (input .entry)) (length (now (out .entry))) ⌝ }
@@ -199,8 +199,7 @@ impl Decoder {
         self.decode_accepted(input, out)
     }
 
-    // `decode` of bytes that are not refused. Who codes by pieces asks for the number once: tests in such a loop would
-    // make it look cold to the compiler, and it would no longer inline the update.
+    // `decode` of bytes that are not refused, likewise.
     pub fn decode_accepted(self, input: &[u8], out: &mut [i16]) -> DecoderAnswer
         requires { ⌜ decodeNumber self (length (now input)) (length (now out)) ≡ done ⌝ }
         ensures answer { λ r. ⌜ r ≡ decodeAnswer self (now (input .entry)) (length (now (out .entry))) ⌝ }
