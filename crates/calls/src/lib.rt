@@ -95,7 +95,7 @@ pub extern "C" fn rozimaha_g722_encode(
     if number != answers::DONE {
         return number as u32;
     }
-    let after = pieces::encode(input, out, session);
+    let after = session.encode_from_bytes(input, out).session;
     mark::write_encoder(after, next).number as u32
 }
 
@@ -125,7 +125,7 @@ pub extern "C" fn rozimaha_g722_decode(
     if number != answers::DONE {
         return number as u32;
     }
-    let after = pieces::decode(input, out, session);
+    let after = session.decode_to_bytes(input, out).session;
     mark::write_decoder(after, next).number as u32
 }
 

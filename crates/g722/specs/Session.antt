@@ -1,4 +1,4 @@
--- What encoders and decoders share: the bounds of a session, and how one is begun (docs/RULES.md, "Sessions", "Bounds").
+-- What encoders and decoders share: the position, the bounds of a session, and how one is begun (docs/RULES.md, "Sessions", "Bounds").
 use Prim.Native.Nat.{ℕ}
 use mathlib.Core.Bool.{Bool, cond, _&&_}
 use lib.IntN.{pos}
@@ -7,9 +7,17 @@ use Rattle.answers.specs.Numbers.{done, badStart}
 use Rattle.band.specs.declared.Filters.{Filters}
 use Rattle.band.specs.Fresh.{freshFilters}
 use Rattle.band.specs.Bounds.{filtersInBounds}
+use Rattle.runs.specs.Rates.{decodeRoom}
 
 abbrev pub positionMost : ℕ
 positionMost = 4294967295
+
+-- position counts samples at the session's rate: those that an encoder takes, and those that a decoder gives out
+unfoldable pub encoderMoves : ℕ → ℕ → ℕ
+encoderMoves rate n = n
+
+unfoldable pub decoderMoves : ℕ → ℕ → ℕ
+decoderMoves rate n = decodeRoom rate n
 
 -- start is 0 or 1, and position and the filters are within their bounds
 unfoldable pub sessionInBounds : ℕ → ℕ → Filters → Bool

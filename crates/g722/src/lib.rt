@@ -1,14 +1,19 @@
 // G.722 sessions. An encoder or a decoder is begun from a rate and a start; each call takes it by value and hands it back.
-mod rates;
-mod runs;
+mod moves;
 mod starts;
 
 use band::Filters;
+use runs::rates;
 ghost use mathlib.Core.Path.{_≡_};
+ghost use Prim.Native.Nat.{_+_, _≤_, _<_, _^_};
 ghost use lib.ListN.{length};
 ghost use Rattle.answers.specs.Numbers.{done};
-ghost use Rattle.g722.specs.Encoding.{encoderBegun, encoderInBounds, encodeNumber, encodeAnswer, encodeOut};
-ghost use Rattle.g722.specs.Decoding.{decoderBegun, decoderInBounds, decodeNumber, decodeAnswer, decodeOut};
+ghost use Rattle.runs.specs.Rates.{encodeRoom, decodeRoom};
+ghost use Rattle.g722.specs.Session.{positionMost, encoderMoves, decoderMoves};
+ghost use Rattle.g722.specs.Encoding.{encoderAt, encoderReply, encoderBegun, encoderInBounds, encodeNumber, encodeAnswer, encodeOut};
+ghost use Rattle.g722.specs.Encoding.{encodeFromBytesNumber, encodeFromBytesAnswer, encodeFromBytesOut};
+ghost use Rattle.g722.specs.Decoding.{decoderAt, decoderReply, decoderBegun, decoderInBounds, decodeNumber, decodeAnswer, decodeOut};
+ghost use Rattle.g722.specs.Decoding.{decodeToBytesAnswer, decodeToBytesOut};
 
 pub const PAYLOAD_TYPE: u8 = 9;
 
@@ -57,7 +62,7 @@ impl Encoder {
     {
         let begun = starts::start_begun(start);
         let session = Encoder {
-            rate: rate,
+            rate,
             start: begun,
             position: 0,
             filters: starts::fresh_at(begun),
@@ -65,7 +70,7 @@ impl Encoder {
         EncoderAnswer {
             number: starts::begin_number(start),
             count: 0,
-            session: session,
+            session,
         }
     }
 
@@ -90,10 +95,52 @@ impl Encoder {
             return answers::NO_ROOM;
         }
         let left = (Encoder::POSITION_MOST - self.position) as usize;
-        if left < rates::encoder_moves(self.rate, n) {
+        if left < moves::encoder_moves(self.rate, n) {
             return answers::POSITION_PAST_END;
         }
         answers::DONE
+    }
+
+    // The same of n bytes that stand for samples.
+    pub fn encode_from_bytes_number(self, n: usize, room: usize) -> u8
+        ensures { λ r. ⌜ r ≡ encodeFromBytesNumber self n room ⌝ }
+    {
+        if !self.in_bounds() {
+            return answers::OUT_OF_BOUNDS;
+        }
+        if n % 2 != 0 {
+            return answers::ODD_COUNT;
+        }
+        self.encode_number(n / 2, room)
+    }
+
+    fn refused(self, number: u8) -> EncoderAnswer
+        ensures { λ r. ⌜ r ≡ encoderReply number 0 self ⌝ }
+    {
+        EncoderAnswer {
+            number,
+            count: 0,
+            session: self,
+        }
+    }
+
+    // The answer once n samples are taken and the filters are these.
+    fn taken(self, n: usize, filters: Filters) -> EncoderAnswer
+        requires { ⌜ self .position + encoderMoves (self .rate) n ≤ positionMost ⌝ }
+        ensures { λ r. ⌜ r ≡ encoderReply done (encodeRoom (self .rate) n)
+            (encoderAt (self .rate) (self .start) (self .position + encoderMoves (self .rate) n) filters) ⌝ }
+    {
+        let session = Encoder {
+            rate: self.rate,
+            start: self.start,
+            position: self.position + moves::encoder_moves(self.rate, n) as u32,
+            filters,
+        };
+        EncoderAnswer {
+            number: answers::DONE,
+            count: rates::encode_room(self.rate, n),
+            session,
+        }
     }
 
     pub fn encode(self, input: &[i16], out: &mut [u8]) -> EncoderAnswer
@@ -102,37 +149,25 @@ impl Encoder {
     {
         let number = self.encode_number(input.len(), out.len());
         if number != answers::DONE {
-            return EncoderAnswer {
-                number: number,
-                count: 0,
-                session: self,
-            };
+            return self.refused(number);
         }
-        self.encode_accepted(input, out)
+        let filters = self.filters;
+        let coded = runs::encode_run(self.rate, input, out, filters);
+        self.taken(input.len(), coded)
     }
 
-    // `encode` of samples that are not refused, for who codes by pieces and asks for the number once: with the tests in that
-    // loop the compiler does not inline the update.
-    pub fn encode_accepted(self, input: &[i16], out: &mut [u8]) -> EncoderAnswer
-        requires { ⌜ encodeNumber self (length (now input)) (length (now out)) ≡ done ⌝ }
-        ensures answer { λ r. ⌜ r ≡ encodeAnswer self (now (input .entry)) (length (now (out .entry))) ⌝ }
-        ensures written { λ _. ⌜ now (out .exit) ≡ encodeOut self (now (input .entry)) (now (out .entry)) ⌝ }
+    // `encode` where the samples come as bytes.
+    pub fn encode_from_bytes(self, input: &[u8], out: &mut [u8]) -> EncoderAnswer
+        ensures answer { λ r. ⌜ r ≡ encodeFromBytesAnswer self (now (input .entry)) (length (now (out .entry))) ⌝ }
+        ensures written { λ _. ⌜ now (out .exit) ≡ encodeFromBytesOut self (now (input .entry)) (now (out .entry)) ⌝ }
     {
-        let rate = self.rate;
-        let f = self.filters;
-        let coded = runs::encode_run(rate, input, out, f);
-        let moves = rates::encoder_moves(rate, input.len());
-        let session = Encoder {
-            rate: rate,
-            start: self.start,
-            position: self.position + moves as u32,
-            filters: coded,
-        };
-        EncoderAnswer {
-            number: answers::DONE,
-            count: rates::encode_room(rate, input.len()),
-            session: session,
+        let number = self.encode_from_bytes_number(input.len(), out.len());
+        if number != answers::DONE {
+            return self.refused(number);
         }
+        let filters = self.filters;
+        let coded = pieces::encode(self.rate, input, out, filters);
+        self.taken(input.len() / 2, coded)
     }
 }
 
@@ -148,7 +183,7 @@ impl Decoder {
     {
         let begun = starts::start_begun(start);
         let session = Decoder {
-            rate: rate,
+            rate,
             start: begun,
             position: 0,
             filters: starts::fresh_at(begun),
@@ -156,7 +191,7 @@ impl Decoder {
         DecoderAnswer {
             number: starts::begin_number(start),
             count: 0,
-            session: session,
+            session,
         }
     }
 
@@ -178,10 +213,33 @@ impl Decoder {
             return answers::NO_ROOM;
         }
         let left = (Decoder::POSITION_MOST - self.position) as usize;
-        if rates::decoder_passes(self.rate, n, left) {
+        if moves::decoder_passes(self.rate, n, left) {
             return answers::POSITION_PAST_END;
         }
         answers::DONE
+    }
+
+    fn refused(self, number: u8) -> DecoderAnswer
+        ensures { λ r. ⌜ r ≡ decoderReply number 0 self ⌝ }
+    {
+        DecoderAnswer {
+            number,
+            count: 0,
+            session: self,
+        }
+    }
+
+    // The session once n bytes are taken and the filters are these.
+    fn taken(self, n: usize, filters: Filters) -> Decoder
+        requires { ⌜ (n < 2 ^ 63) × (self .position + decoderMoves (self .rate) n ≤ positionMost) ⌝ }
+        ensures { λ r. ⌜ r ≡ decoderAt (self .rate) (self .start) (self .position + decoderMoves (self .rate) n) filters ⌝ }
+    {
+        Decoder {
+            rate: self.rate,
+            start: self.start,
+            position: self.position + moves::decoder_moves(self.rate, n) as u32,
+            filters,
+        }
     }
 
     pub fn decode(self, input: &[u8], out: &mut [i16]) -> DecoderAnswer
@@ -190,35 +248,32 @@ impl Decoder {
     {
         let number = self.decode_number(input.len(), out.len());
         if number != answers::DONE {
-            return DecoderAnswer {
-                number: number,
-                count: 0,
-                session: self,
-            };
+            return self.refused(number);
         }
-        self.decode_accepted(input, out)
+        let filters = self.filters;
+        let decoded = runs::decode_run(self.rate, input, out, filters);
+        DecoderAnswer {
+            number,
+            count: rates::decode_room(self.rate, input.len()),
+            session: self.taken(input.len(), decoded),
+        }
     }
 
-    // `decode` of bytes that are not refused, likewise.
-    pub fn decode_accepted(self, input: &[u8], out: &mut [i16]) -> DecoderAnswer
-        requires { ⌜ decodeNumber self (length (now input)) (length (now out)) ≡ done ⌝ }
-        ensures answer { λ r. ⌜ r ≡ decodeAnswer self (now (input .entry)) (length (now (out .entry))) ⌝ }
-        ensures written { λ _. ⌜ now (out .exit) ≡ decodeOut self (now (input .entry)) (now (out .entry)) ⌝ }
+    // `decode` where the samples leave as bytes. The room and the count are those of bytes.
+    pub fn decode_to_bytes(self, input: &[u8], out: &mut [u8]) -> DecoderAnswer
+        ensures answer { λ r. ⌜ r ≡ decodeToBytesAnswer self (now (input .entry)) (length (now (out .entry))) ⌝ }
+        ensures written { λ _. ⌜ now (out .exit) ≡ decodeToBytesOut self (now (input .entry)) (now (out .entry)) ⌝ }
     {
-        let rate = self.rate;
-        let f = self.filters;
-        let decoded = runs::decode_run(rate, input, out, f);
-        let moves = rates::decoder_moves(rate, input.len());
-        let session = Decoder {
-            rate: rate,
-            start: self.start,
-            position: self.position + moves as u32,
-            filters: decoded,
-        };
+        let number = self.decode_number(input.len(), out.len() / 2);
+        if number != answers::DONE {
+            return self.refused(number);
+        }
+        let filters = self.filters;
+        let decoded = pieces::decode(self.rate, input, out, filters);
         DecoderAnswer {
-            number: answers::DONE,
-            count: rates::decode_room(rate, input.len()),
-            session: session,
+            number,
+            count: 2 * rates::decode_room(self.rate, input.len()),
+            session: self.taken(input.len(), decoded),
         }
     }
 }

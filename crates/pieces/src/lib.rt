@@ -1,16 +1,16 @@
-// G.722 over samples as bytes. The coders take and give samples, so these go through a local array, a piece at a time.
-use g722::Decoder;
-use g722::Encoder;
+// Runs of G.722 over samples as bytes. The runs take and give samples, so these go through a local array, a piece at a time.
+use band::Filters;
+use runs::rates;
 use samples::bits;
 use samples::sample;
+ghost use mathlib.Core.Bool.{false};
 ghost use mathlib.Core.Path.{_≡_};
 ghost use Prim.Native.Nat.{_*_, _/_, _%_, _<_, _≤_, min};
 ghost use lib.ListN.{length};
 ghost use lib.Seq.{sets};
-ghost use Rattle.answers.specs.Numbers.{done};
 ghost use Rattle.samples.specs.Bytes.{samples, bytes};
-ghost use Rattle.g722.specs.Encoding.{encoderAfter, encodedBytes, encodeNumber};
-ghost use Rattle.g722.specs.Decoding.{decoderAfter, decodedSamples, decodeNumber};
+ghost use Rattle.runs.specs.Rates.{encodeRoom, decodeRoom, oddAt};
+ghost use Rattle.runs.specs.Runs.{pairsAt, keptAt, filtersAfterPairs, bytesOfPairs, filtersAfterBytes, pairsOfBytes};
 
 // How many samples a piece has.
 const PIECE: usize = 2048;
@@ -47,67 +47,65 @@ fn pack(input: &[i16], out: &mut [u8])
     }
 }
 
-// Encodes the samples of input by pieces. The encoder does not refuse them, and a piece ends with a pair.
-fn encode_by(piece: &mut [i16], input: &[u8], out: &mut [u8], session: Encoder) -> Encoder
+// Encodes the samples of input by pieces. A piece ends with a pair, and so does the input.
+fn encode_by(piece: &mut [i16], rate: u32, input: &[u8], out: &mut [u8], filters: Filters) -> Filters
     requires { ⌜ (0 < length (now piece)) × (length (now piece) % 2 ≡ 0) ⌝ }
-    requires { ⌜ length (now input) % 2 ≡ 0 ⌝ }
-    requires { ⌜ encodeNumber session (length (now input) / 2) (length (now out)) ≡ done ⌝ }
-    ensures { λ r. ⌜ r ≡ encoderAfter session (samples (now (input .entry))) ⌝ }
-    ensures { λ _. ⌜ now (out .exit) ≡ sets (now (out .entry)) 0 (encodedBytes session (samples (now (input .entry)))) ⌝ }
+    requires { ⌜ (length (now input) % 2 ≡ 0) × (oddAt rate (length (now input) / 2) ≡ false) ⌝ }
+    requires { ⌜ encodeRoom rate (length (now input) / 2) ≤ length (now out) ⌝ }
+    ensures { λ r. ⌜ r ≡ filtersAfterPairs filters (pairsAt rate (samples (now (input .entry)))) ⌝ }
+    ensures { λ _. ⌜ now (out .exit) ≡ sets (now (out .entry)) 0 (bytesOfPairs filters (pairsAt rate (samples (now (input .entry))))) ⌝ }
 {
-    let mut s = session;
+    let mut f = filters;
     let mut i: usize = 0;
     let mut o: usize = 0;
     while i < input.len() {
         let n = least(piece.len(), (input.len() - i) / 2);
         let end = i + 2 * n;
         unpack(&input[i..end], &mut piece[..n]);
-        let encoded = s.encode_accepted(&piece[..n], &mut out[o..]);
-        s = encoded.session;
-        o += encoded.count;
+        f = runs::encode_run(rate, &piece[..n], &mut out[o..], f);
+        o += rates::encode_room(rate, n);
         i = end;
     }
-    s
+    f
 }
 
-pub fn encode(input: &[u8], out: &mut [u8], session: Encoder) -> Encoder
-    requires { ⌜ length (now input) % 2 ≡ 0 ⌝ }
-    requires { ⌜ encodeNumber session (length (now input) / 2) (length (now out)) ≡ done ⌝ }
-    ensures { λ r. ⌜ r ≡ encoderAfter session (samples (now (input .entry))) ⌝ }
-    ensures { λ _. ⌜ now (out .exit) ≡ sets (now (out .entry)) 0 (encodedBytes session (samples (now (input .entry)))) ⌝ }
+pub fn encode(rate: u32, input: &[u8], out: &mut [u8], filters: Filters) -> Filters
+    requires { ⌜ (length (now input) % 2 ≡ 0) × (oddAt rate (length (now input) / 2) ≡ false) ⌝ }
+    requires { ⌜ encodeRoom rate (length (now input) / 2) ≤ length (now out) ⌝ }
+    ensures { λ r. ⌜ r ≡ filtersAfterPairs filters (pairsAt rate (samples (now (input .entry)))) ⌝ }
+    ensures { λ _. ⌜ now (out .exit) ≡ sets (now (out .entry)) 0 (bytesOfPairs filters (pairsAt rate (samples (now (input .entry))))) ⌝ }
 {
     let mut piece = [0i16; PIECE];
-    encode_by(&mut piece, input, out, session)
+    encode_by(&mut piece, rate, input, out, filters)
 }
 
-// Decodes the bytes of input by pieces. The decoder does not refuse them; a byte gives two samples at the most.
-fn decode_by(piece: &mut [i16], input: &[u8], out: &mut [u8], session: Decoder) -> Decoder
+// Decodes the bytes of input by pieces; a byte gives two samples at the most.
+fn decode_by(piece: &mut [i16], rate: u32, input: &[u8], out: &mut [u8], filters: Filters) -> Filters
     requires { ⌜ 1 < length (now piece) ⌝ }
-    requires { ⌜ decodeNumber session (length (now input)) (length (now out) / 2) ≡ done ⌝ }
-    ensures { λ r. ⌜ r ≡ decoderAfter session (now (input .entry)) ⌝ }
-    ensures { λ _. ⌜ now (out .exit) ≡ sets (now (out .entry)) 0 (bytes (decodedSamples session (now (input .entry)))) ⌝ }
+    requires { ⌜ decodeRoom rate (length (now input)) ≤ length (now out) / 2 ⌝ }
+    ensures { λ r. ⌜ r ≡ filtersAfterBytes filters (now (input .entry)) ⌝ }
+    ensures { λ _. ⌜ now (out .exit) ≡ sets (now (out .entry)) 0 (bytes (keptAt rate (pairsOfBytes filters (now (input .entry))))) ⌝ }
 {
-    let mut s = session;
+    let mut f = filters;
     let mut i: usize = 0;
     let mut o: usize = 0;
     while i < input.len() {
         let n = least(piece.len() / 2, input.len() - i);
         let end = i + n;
-        let decoded = s.decode_accepted(&input[i..end], piece);
-        s = decoded.session;
-        let count = decoded.count;
+        f = runs::decode_run(rate, &input[i..end], piece, f);
+        let count = rates::decode_room(rate, n);
         pack(&piece[..count], &mut out[o..]);
         o += 2 * count;
         i = end;
     }
-    s
+    f
 }
 
-pub fn decode(input: &[u8], out: &mut [u8], session: Decoder) -> Decoder
-    requires { ⌜ decodeNumber session (length (now input)) (length (now out) / 2) ≡ done ⌝ }
-    ensures { λ r. ⌜ r ≡ decoderAfter session (now (input .entry)) ⌝ }
-    ensures { λ _. ⌜ now (out .exit) ≡ sets (now (out .entry)) 0 (bytes (decodedSamples session (now (input .entry)))) ⌝ }
+pub fn decode(rate: u32, input: &[u8], out: &mut [u8], filters: Filters) -> Filters
+    requires { ⌜ decodeRoom rate (length (now input)) ≤ length (now out) / 2 ⌝ }
+    ensures { λ r. ⌜ r ≡ filtersAfterBytes filters (now (input .entry)) ⌝ }
+    ensures { λ _. ⌜ now (out .exit) ≡ sets (now (out .entry)) 0 (bytes (keptAt rate (pairsOfBytes filters (now (input .entry))))) ⌝ }
 {
     let mut piece = [0i16; PIECE];
-    decode_by(&mut piece, input, out, session)
+    decode_by(&mut piece, rate, input, out, filters)
 }

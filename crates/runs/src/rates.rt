@@ -3,13 +3,13 @@ ghost use mathlib.Core.Bool.{cond};
 ghost use mathlib.Core.Path.{_≡_};
 ghost use Prim.Native.Nat.{_<_, _^_};
 ghost use lib.Dec.{ltb};
-ghost use Rattle.g722.specs.Rates.{encodeRoom, decodeRoom, encoderMoves, decoderMoves, oddAt, resamples};
+ghost use Rattle.runs.specs.Rates.{encodeRoom, decodeRoom, oddAt, resamples};
 
 // The rate at which one sample goes with a byte.
 pub(crate) const RESAMPLED: u32 = 8000;
 
 // How many bytes n samples give.
-pub(crate) fn encode_room(rate: u32, n: usize) -> usize
+pub fn encode_room(rate: u32, n: usize) -> usize
     ensures { λ r. ⌜ r ≡ encodeRoom rate n ⌝ }
 {
     if rate == RESAMPLED {
@@ -19,7 +19,7 @@ pub(crate) fn encode_room(rate: u32, n: usize) -> usize
 }
 
 // How many samples n bytes give.
-pub(crate) fn decode_room(rate: u32, n: usize) -> usize
+pub fn decode_room(rate: u32, n: usize) -> usize
     requires { ⌜ n < 2 ^ 63 ⌝ }
     ensures { λ r. ⌜ r ≡ decodeRoom rate n ⌝ }
 {
@@ -29,23 +29,8 @@ pub(crate) fn decode_room(rate: u32, n: usize) -> usize
     2 * n
 }
 
-// How far n samples move an encoder's position.
-pub(crate) fn encoder_moves(rate: u32, n: usize) -> usize
-    ensures { λ r. ⌜ r ≡ encoderMoves rate n ⌝ }
-{
-    n
-}
-
-// How far n bytes move a decoder's position.
-pub(crate) fn decoder_moves(rate: u32, n: usize) -> usize
-    requires { ⌜ n < 2 ^ 63 ⌝ }
-    ensures { λ r. ⌜ r ≡ decoderMoves rate n ⌝ }
-{
-    decode_room(rate, n)
-}
-
 // Whether n bytes give more samples than there is room for; also where twice n is no usize.
-pub(crate) fn decode_overfills(rate: u32, n: usize, room: usize) -> bool
+pub fn decode_overfills(rate: u32, n: usize, room: usize) -> bool
     ensures { λ r. ⌜ r ≡ ltb room (decodeRoom rate n) ⌝ }
 {
     if rate == RESAMPLED {
@@ -54,15 +39,8 @@ pub(crate) fn decode_overfills(rate: u32, n: usize, room: usize) -> bool
     room / 2 < n
 }
 
-// Whether n bytes move a decoder's position further than there is left.
-pub(crate) fn decoder_passes(rate: u32, n: usize, left: usize) -> bool
-    ensures { λ r. ⌜ r ≡ ltb left (decoderMoves rate n) ⌝ }
-{
-    decode_overfills(rate, n, left)
-}
-
 // Whether n samples leave one that has no pair.
-pub(crate) fn odd_at(rate: u32, n: usize) -> bool
+pub fn odd_at(rate: u32, n: usize) -> bool
     ensures { λ r. ⌜ r ≡ oddAt rate n ⌝ }
 {
     (rate != RESAMPLED) & (n % 2 != 0)

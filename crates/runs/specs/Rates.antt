@@ -1,5 +1,4 @@
--- What the rate decides, for n input items: how many items a call writes, and how far it moves the position
--- (docs/RULES.md, "Room", "Sessions").
+-- What the rate decides, for n input items: how many items are written (docs/RULES.md, "Room", "Sessions").
 use Prim.Native.Nat.{ℕ, _*_, _/_, _%_}
 use mathlib.Core.Bool.{Bool, cond, not, _&&_}
 use lib.Dec.{eqb}
@@ -13,13 +12,6 @@ encodeRoom rate n = cond (resamples rate) n (n / 2)
 
 unfoldable pub decodeRoom : ℕ → ℕ → ℕ
 decodeRoom rate n = cond (resamples rate) n (2 * n)
-
--- position counts samples at the session's rate: those that an encoder takes, and those that a decoder gives out
-unfoldable pub encoderMoves : ℕ → ℕ → ℕ
-encoderMoves rate n = n
-
-unfoldable pub decoderMoves : ℕ → ℕ → ℕ
-decoderMoves rate n = decodeRoom rate n
 
 -- an odd count of samples, where two go into a byte
 unfoldable pub oddAt : ℕ → ℕ → Bool

@@ -6,7 +6,7 @@ use mathlib.Core.List.{List, [], _∷_, _++_}
 use lib.IntN.{ℤ}
 use Rattle.band.specs.declared.Filters.{Filters}
 use Rattle.step.specs.Step.{encodeStep, decodeStep}
-use Rattle.g722.specs.Rates.{resamples}
+use Rattle.runs.specs.Rates.{resamples}
 
 pub record Pair : Type 0 where
   pub first : ℤ

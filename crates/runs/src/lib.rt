@@ -1,5 +1,7 @@
-// The coders' loops, one each for all rates, so that the step of a byte is called in one place.
-use crate::rates;
+// Runs of G.722 over the filters alone: samples to bytes, and bytes to samples. One loop each for all rates, so that the step of a
+// byte is called in one place. They ask for room, and no user calls them: sessions do, which refuse.
+pub mod rates;
+
 use band::Filters;
 use band::tables;
 ghost use mathlib.Core.Path.{_≡_};
@@ -7,8 +9,8 @@ ghost use Prim.Native.Nat.{_+_, _<_, _≤_};
 ghost use lib.ListN.{length, set};
 ghost use lib.Seq.{sets};
 ghost use Rattle.step.specs.Tables.{DecodingTables, EncodingTables};
-ghost use Rattle.g722.specs.Rates.{encodeRoom, decodeRoom};
-ghost use Rattle.g722.specs.Runs.{pair, pairsAt, keptOf, keptAt, filtersAfterPairs, bytesOfPairs, filtersAfterBytes, pairsOfBytes};
+ghost use Rattle.runs.specs.Rates.{encodeRoom, decodeRoom};
+ghost use Rattle.runs.specs.Runs.{pair, pairsAt, keptOf, keptAt, filtersAfterPairs, bytesOfPairs, filtersAfterBytes, pairsOfBytes};
 
 // A byte of each pair of samples, from out's first place on.
 fn encode_pairs(
@@ -68,7 +70,7 @@ fn encode_pairs(
 }
 
 // The tables stand in locals once for each call.
-pub(crate) fn encode_run(rate: u32, input: &[i16], out: &mut [u8], f: Filters) -> Filters
+pub fn encode_run(rate: u32, input: &[i16], out: &mut [u8], f: Filters) -> Filters
     requires { ⌜ encodeRoom rate (length (now input)) ≤ length (now out) ⌝ }
     ensures { λ r. ⌜ r ≡ filtersAfterPairs f (pairsAt rate (now (input .entry))) ⌝ }
     ensures { λ _. ⌜ now (out .exit) ≡ sets (now (out .entry)) 0 (bytesOfPairs f (pairsAt rate (now (input .entry)))) ⌝ }
@@ -161,7 +163,7 @@ fn decode_bytes(
     g
 }
 
-pub(crate) fn decode_run(rate: u32, input: &[u8], out: &mut [i16], f: Filters) -> Filters
+pub fn decode_run(rate: u32, input: &[u8], out: &mut [i16], f: Filters) -> Filters
     requires { ⌜ decodeRoom rate (length (now input)) ≤ length (now out) ⌝ }
     ensures { λ r. ⌜ r ≡ filtersAfterBytes f (now (input .entry)) ⌝ }
     ensures { λ _. ⌜ now (out .exit) ≡ sets (now (out .entry)) 0 (keptAt rate (pairsOfBytes f (now (input .entry)))) ⌝ }
