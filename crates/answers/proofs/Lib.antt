@@ -1,3 +1,4 @@
 pub mod Answered
 pub mod Filling
+pub mod Coding
 pub mod Determined

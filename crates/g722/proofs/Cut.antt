@@ -1,52 +1,20 @@
--- A run over a ++ b is a run over a and then one over b: the filters, the output, the count and the session.
-use Prim.Native.Nat.{ℕ, suc, _+_}
+-- A call on a ++ b is one on a and then one on b: the count, the session and the output.
+use Prim.Native.Nat.{ℕ, _+_}
 use mathlib.Core.Bool.{false}
-use mathlib.Core.Path.{_≡_, refl, ap, _∙_}
-use mathlib.Core.List.{List, [], _∷_, _++_}
+use mathlib.Core.Path.{_≡_, ap, _∙_}
+use mathlib.Core.List.{List, _++_}
 use lib.IntN.{ℤ}
 use lib.ListN.{length, length-append}
-use Rattle.band.specs.declared.Filters.{Filters}
-use Rattle.step.specs.Step.{encodeStep, decodeStep}
+use Rattle.runs.specs.Rates.{encodeRoom, decodeRoom, oddAt}
+use Rattle.runs.proofs.RateLaws.{encode-room-cut, decode-room-cut}
+use Rattle.runs.proofs.Cut.{filters-encoded-cut, bytes-encoded-cut, bytes-encoded-length}
+use Rattle.runs.proofs.Cut.{filters-after-bytes-cut, kept-decoded-cut, kept-decoded-length}
 use Rattle.g722.specs.declared.Encoder.{Encoder}
 use Rattle.g722.specs.declared.Decoder.{Decoder}
-use Rattle.g722.specs.Rates.{encodeRoom, decodeRoom, encoderMoves, decoderMoves, oddAt}
-use Rattle.g722.specs.Runs.{Pair, pair, pairsAt, keptAt, filtersAfterPairs, bytesOfPairs, filtersAfterBytes, pairsOfBytes}
+use Rattle.g722.specs.Session.{encoderMoves, decoderMoves}
 use Rattle.g722.specs.Encoding.{encoderAt, encoderAfter, encodedBytes}
 use Rattle.g722.specs.Decoding.{decoderAt, decoderAfter, decodedSamples}
-use Rattle.g722.proofs.RateLaws.{encode-room-cut, decode-room-cut, encoder-moves-cut, decoder-moves-cut, on}
-use Rattle.g722.proofs.Pairs.{pairs-length, pairs-of-length, kept-length, pairs-cut, kept-cut}
-
--- ---- the runs
-
-filters-after-pairs-cut : (f : Filters) (ps qs : List Pair) → filtersAfterPairs f (ps ++ qs) ≡ filtersAfterPairs (filtersAfterPairs f ps) qs
-unfolding filtersAfterPairs
-filters-after-pairs-cut f [] qs = refl
-filters-after-pairs-cut f (p ∷ ps) qs = filters-after-pairs-cut (encodeStep f (p .first) (p .second) .filters) ps qs
-
-bytes-of-pairs-cut : (f : Filters) (ps qs : List Pair)
-    → bytesOfPairs f (ps ++ qs) ≡ bytesOfPairs f ps ++ bytesOfPairs (filtersAfterPairs f ps) qs
-unfolding filtersAfterPairs bytesOfPairs
-bytes-of-pairs-cut f [] qs = refl
-bytes-of-pairs-cut f (p ∷ ps) qs =
-    let t = encodeStep f (p .first) (p .second) in
-    ap (λ (l : List ℕ). t .byte ∷ l) (bytes-of-pairs-cut (t .filters) ps qs)
-
-filters-after-bytes-cut : (f : Filters) (a b : List ℕ) → filtersAfterBytes f (a ++ b) ≡ filtersAfterBytes (filtersAfterBytes f a) b
-unfolding filtersAfterBytes
-filters-after-bytes-cut f [] b = refl
-filters-after-bytes-cut f (x ∷ a) b = filters-after-bytes-cut (decodeStep f x .filters) a b
-
-pairs-of-bytes-cut : (f : Filters) (a b : List ℕ) → pairsOfBytes f (a ++ b) ≡ pairsOfBytes f a ++ pairsOfBytes (filtersAfterBytes f a) b
-unfolding filtersAfterBytes pairsOfBytes
-pairs-of-bytes-cut f [] b = refl
-pairs-of-bytes-cut f (x ∷ a) b =
-    let t = decodeStep f x in
-    ap (λ (l : List Pair). pair (t .first) (t .second) ∷ l) (pairs-of-bytes-cut (t .filters) a b)
-
-bytes-of-pairs-length : (f : Filters) (ps : List Pair) → length (bytesOfPairs f ps) ≡ length ps
-unfolding bytesOfPairs
-bytes-of-pairs-length f [] = refl
-bytes-of-pairs-length f (p ∷ ps) = ap suc (bytes-of-pairs-length (encodeStep f (p .first) (p .second) .filters) ps)
+use Rattle.g722.proofs.Moves.{encoder-moves-cut, decoder-moves-cut, on}
 
 -- ---- encoders; at rates other than 8000 the first part ends with a pair
 
@@ -60,20 +28,16 @@ module _ (s : Encoder) (a b : List ℤ) (even : oddAt (s .rate) (length a) ≡ f
   pub encoder-cut : encoderAfter s (a ++ b) ≡ encoderAfter (encoderAfter s a) b
   unfolding encoderAfter
   encoder-cut =
-      let pairs = pairs-cut (s .rate) a b even in
-      let filters = ap (filtersAfterPairs (s .filters)) pairs ∙ filters-after-pairs-cut (s .filters) (pairsAt (s .rate) a) _ in
-      λ i. encoderAt (s .rate) (s .start) (on (s .position) _ _ _ encode-moves-cut i) (filters i)
+      λ i. encoderAt (s .rate) (s .start) (on (s .position) _ _ _ encode-moves-cut i) (filters-encoded-cut (s .rate) (s .filters) a b even i)
 
   pub encoded-cut : encodedBytes s (a ++ b) ≡ encodedBytes s a ++ encodedBytes (encoderAfter s a) b
   unfolding encoderAfter encodedBytes
-  encoded-cut =
-      let pairs = pairs-cut (s .rate) a b even in
-      ap (bytesOfPairs (s .filters)) pairs ∙ bytes-of-pairs-cut (s .filters) (pairsAt (s .rate) a) _
+  encoded-cut = bytes-encoded-cut (s .rate) (s .filters) a b even
 
 -- as many bytes as are counted
 pub encoded-length : (s : Encoder) (xs : List ℤ) → length (encodedBytes s xs) ≡ encodeRoom (s .rate) (length xs)
 unfolding encodedBytes
-encoded-length s xs = bytes-of-pairs-length (s .filters) (pairsAt (s .rate) xs) ∙ pairs-length (s .rate) xs
+encoded-length s xs = bytes-encoded-length (s .rate) (s .filters) xs
 
 -- ---- decoders
 
@@ -90,9 +54,9 @@ module _ (s : Decoder) (a b : List ℕ) where
 
   pub decoded-cut : decodedSamples s (a ++ b) ≡ decodedSamples s a ++ decodedSamples (decoderAfter s a) b
   unfolding decoderAfter decodedSamples
-  decoded-cut = ap (keptAt (s .rate)) (pairs-of-bytes-cut (s .filters) a b) ∙ kept-cut (s .rate) (pairsOfBytes (s .filters) a) _
+  decoded-cut = kept-decoded-cut (s .rate) (s .filters) a b
 
 -- as many samples as are counted
 pub decoded-length : (s : Decoder) (bs : List ℕ) → length (decodedSamples s bs) ≡ decodeRoom (s .rate) (length bs)
 unfolding decodedSamples
-decoded-length s bs = kept-length (s .rate) (pairsOfBytes (s .filters) bs) ∙ ap (decodeRoom (s .rate)) (pairs-of-length (s .filters) bs)
+decoded-length s bs = kept-decoded-length (s .rate) (s .filters) bs

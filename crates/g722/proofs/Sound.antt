@@ -1,102 +1,28 @@
 -- Sessions stay within the bounds: those that are begun, and those that a call answers for a session within them.
 -- What is given out has its type.
-use Prim.Native.Nat.{ℕ, zero, suc, _+_, _≤_, _<_}
+use Prim.Native.Nat.{ℕ, _+_, _≤_, _<_}
 use native.Mathlib.Omega.{arith}
 use mathlib.Core.Bool.{Bool, true, false, cond}
 use mathlib.Core.Path.{_≡_, refl}
-use mathlib.Core.List.{List, [], _∷_, _++_}
+use mathlib.Core.List.{List}
 use lib.IntN.{ℤ, pos}
 use lib.Dec.{eqb, ltb, leb}
 use lib.ListN.{length, getD}
 use borrow.Author.Tests.{le-leb, leb-true, ltb-false, eqb-true}
 use Rattle.answers.specs.Numbers.{done}
-use Rattle.fixed.specs.Number.{In16}
 use Rattle.band.specs.declared.Filters.{Filters}
 use Rattle.band.specs.Fresh.{freshBand, freshFilters}
 use Rattle.band.specs.Bounds.{allBetween, allWords, bandInBounds, filtersInBounds}
-use Rattle.band.proofs.Boxes.{both, left, right, no-words, more-words, head-word, tail-words}
-use Rattle.step.specs.Step.{encodeStep, decodeStep}
-use Rattle.step.proofs.Laws.{encode-sound, decode-sound}
+use Rattle.band.proofs.Boxes.{both, left, right}
+use Rattle.runs.proofs.Sound.{pairs-words, kept-words, filters-after-pairs-sound, bytes-of-pairs-below, filters-after-bytes-sound, pairs-of-bytes-words}
 use Rattle.g722.specs.declared.Encoder.{Encoder}
 use Rattle.g722.specs.declared.Decoder.{Decoder}
 use Rattle.g722.specs.declared.EncoderAnswer.{EncoderAnswer}
 use Rattle.g722.specs.declared.DecoderAnswer.{DecoderAnswer}
-use Rattle.g722.specs.Rates.{resamples, encoderMoves, decoderMoves}
-use Rattle.g722.specs.Runs.{Pair, doubled, paired, pairsAt, keptOf, keptAt}
-use Rattle.g722.specs.Runs.{filtersAfterPairs, bytesOfPairs, filtersAfterBytes, pairsOfBytes}
-use Rattle.g722.specs.Session.{positionMost, sessionInBounds, startBegun, freshAt}
+use Rattle.g722.specs.Session.{positionMost, encoderMoves, decoderMoves, sessionInBounds, startBegun, freshAt}
 use Rattle.g722.specs.Encoding.{encoderInBounds, encoderBegun, encoderAfter, encodedBytes, encodeNumber, encodeAnswer}
 use Rattle.g722.specs.Decoding.{decoderInBounds, decoderBegun, decoderAfter, decodedSamples, decodeNumber, decodeAnswer}
 use Rattle.g722.proofs.Numbers.{encode-taken, decode-taken}
-
--- ---- pairs of samples of 16 bits
-
-pub data Words : List Pair → Type 0 where
-  none : Words []
-  more : {p : Pair} {ps : List Pair} → In16 (p .first) → In16 (p .second) → Words ps → Words (p ∷ ps)
-
-doubled-words : (xs : List ℤ) → allWords xs ≡ true → Words (doubled xs)
-unfolding doubled
-doubled-words [] w = none
-doubled-words (a ∷ xs) w = more (head-word a xs w) (head-word a xs w) (doubled-words xs (tail-words a xs w))
-
-paired-words : (xs : List ℤ) → allWords xs ≡ true → Words (paired xs)
-unfolding paired
-paired-words [] w = none
-paired-words (a ∷ []) w = none
-paired-words (a ∷ b ∷ xs) w =
-    let v = tail-words a (b ∷ xs) w in
-    more (head-word a (b ∷ xs) w) (head-word b xs v) (paired-words xs (tail-words b xs v))
-
-pairs-words-by : (t : Bool) (xs : List ℤ) → allWords xs ≡ true → Words (cond t (doubled xs) (paired xs))
-pairs-words-by true = doubled-words
-pairs-words-by false = paired-words
-
-pairs-words : (rate : ℕ) (xs : List ℤ) → allWords xs ≡ true → Words (pairsAt rate xs)
-unfolding pairsAt
-pairs-words rate = pairs-words-by (resamples rate)
-
-kept-words-by : (t : Bool) (p : Pair) (zs : List ℤ) → In16 (p .first) → In16 (p .second) → allWords zs ≡ true
-    → allWords (p .first ∷ (cond t [] (p .second ∷ []) ++ zs)) ≡ true
-kept-words-by true p zs i j w = more-words _ zs i w
-kept-words-by false p zs i j w = more-words _ _ i (more-words _ zs j w)
-
-kept-words : (rate : ℕ) (ps : List Pair) → Words ps → allWords (keptAt rate ps) ≡ true
-unfolding keptAt keptOf
-kept-words rate [] none = no-words
-kept-words rate (p ∷ ps) (more i j w) = kept-words-by (resamples rate) p (keptAt rate ps) i j (kept-words rate ps w)
-
--- ---- the runs
-
-filters-after-pairs-sound : (f : Filters) (ps : List Pair) → Words ps → filtersInBounds f ≡ true
-    → filtersInBounds (filtersAfterPairs f ps) ≡ true
-unfolding filtersAfterPairs
-filters-after-pairs-sound f [] none h = h
-filters-after-pairs-sound f (p ∷ ps) (more i j w) h =
-    let t = encode-sound f (p .first) (p .second) i j h in
-    filters-after-pairs-sound (encodeStep f (p .first) (p .second) .filters) ps w (t .0)
-
-bytes-of-pairs-below : (f : Filters) (ps : List Pair) → Words ps → filtersInBounds f ≡ true → (i : ℕ) → getD (bytesOfPairs f ps) i 0 < 256
-unfolding bytesOfPairs
-bytes-of-pairs-below f [] none h i = omega arith
-bytes-of-pairs-below f (p ∷ ps) (more a b w) h zero = encode-sound f (p .first) (p .second) a b h .1
-bytes-of-pairs-below f (p ∷ ps) (more a b w) h (suc i) =
-    let t = encode-sound f (p .first) (p .second) a b h in
-    bytes-of-pairs-below (encodeStep f (p .first) (p .second) .filters) ps w (t .0) i
-
-filters-after-bytes-sound : (f : Filters) (bs : List ℕ) → filtersInBounds f ≡ true → filtersInBounds (filtersAfterBytes f bs) ≡ true
-unfolding filtersAfterBytes
-filters-after-bytes-sound f [] h = h
-filters-after-bytes-sound f (b ∷ bs) h = filters-after-bytes-sound (decodeStep f b .filters) bs (decode-sound f b h .0)
-
-pairs-of-bytes-words : (f : Filters) (bs : List ℕ) → filtersInBounds f ≡ true → Words (pairsOfBytes f bs)
-unfolding pairsOfBytes
-pairs-of-bytes-words f [] h = none
-pairs-of-bytes-words f (b ∷ bs) h =
-    let t = decode-sound f b h in
-    more (t .1) (t .2) (pairs-of-bytes-words (decodeStep f b .filters) bs (t .0))
-
--- ---- sessions
 
 module _ (start position : ℕ) (f : Filters) where
   start-in : sessionInBounds start position f ≡ true → leb start 1 ≡ true

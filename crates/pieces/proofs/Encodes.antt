@@ -6,25 +6,20 @@ use Prim.Native.Nat.{ℕ, _+_, _*_, _-_, _/_, _%_, _≤_, min}
 use native.Mathlib.Omega.{arith}
 use lib.Dec.{ltb}
 use lib.IntN.{ℤ}
-use lib.ListN.{length, take, drop, length-drop, drop-of-length-le}
-use lib.Seq.{sets, length-sets, take-at}
+use lib.ListN.{length, take, drop, length-append, length-drop, drop-of-length-le}
+use lib.Seq.{sets, take-at}
 use borrow.Rule.Slice.PartMut.{midOf, mid-len}
 use borrow.Author.Tests.{ltb-true, ltb-false, eq-eqb}
-use Rattle.answers.specs.Numbers.{done}
-use Rattle.answers.proofs.Filling.{Filling, starts, ends}
+use Rattle.answers.proofs.Coding.{Coding, coding-none, coding-room, coding-more, coding-all}
 use Rattle.samples.specs.Bytes.{samples}
 use Rattle.samples.proofs.Bytes.{length-samples}
-use Rattle.band.specs.Bounds.{allWords}
-use Rattle.g722.specs.declared.Encoder.{Encoder}
-use Rattle.g722.specs.declared.EncoderAnswer.{EncoderAnswer}
-use Rattle.g722.specs.Rates.{resamples, encodeRoom, oddAt}
-use Rattle.g722.specs.Encoding.{encoderAfter, encodedBytes, encodeNumber, encodeAnswer, encodeOut}
-use Rattle.g722.proofs.Loops.{puts}
-use Rattle.g722.proofs.Numbers.{encode-taken, encode-done}
-use Rattle.g722.proofs.Cut.{encode-count-cut, encoder-cut, encoded-cut, encoded-length}
-use Rattle.g722.proofs.Pieces.{encode-first, encode-second}
-use Rattle.g722.proofs.Empty.{encode-empty}
-use Rattle.pieces.proofs.Lists.{partOf, putPart, part-length, sets-part, apart, no-items, samples-cut, words-apart}
+use Rattle.band.specs.declared.Filters.{Filters}
+use Rattle.runs.specs.Rates.{resamples, encodeRoom, oddAt}
+use Rattle.runs.specs.Runs.{pairsAt, filtersAfterPairs, bytesOfPairs}
+use Rattle.runs.proofs.RateLaws.{even-rest}
+use Rattle.runs.proofs.Pairs.{no-pairs}
+use Rattle.runs.proofs.Cut.{filters-encoded-cut, bytes-encoded-cut, bytes-encoded-length}
+use Rattle.pieces.proofs.Lists.{partOf, putPart, part-length, sets-part, apart, samples-cut}
 
 -- ---- a piece of samples that end with a pair does too
 
@@ -44,112 +39,94 @@ module _ (rate most n : ℕ) (even : most % 2 ≡ 0) (whole : oddAt rate n ≡ f
 
 -- ---- the loop
 
--- from the session s and the place o on, the input from i on does what the whole does from s₀ and place 0 on
-pub record Encodes (s₀ : Encoder) (input out₀ : List ℕ) (s : Encoder) (out : List ℕ) (i o : ℕ) : Type 0 where
-  pub within : i ≤ length input
-  pub even : (length input - i) % 2 ≡ 0
-  pub words : allWords (samples (drop i input)) ≡ true
-  pub inside : o ≤ length out
-  pub taken : encodeNumber s (length (samples (drop i input))) (length out - o) ≡ done
-  pub session : encoderAfter s (samples (drop i input)) ≡ encoderAfter s₀ (samples input)
-  pub written : Filling (encodedBytes s₀ (samples input)) out₀ (encodedBytes s (samples (drop i input))) out o
+module _ (rate : ℕ) where
+  abbrev pub filtersAfter : Filters → List ℤ → Filters
+  filtersAfter f xs = filtersAfterPairs f (pairsAt rate xs)
 
-pub encodes-none : (s₀ : Encoder) (input out₀ : List ℕ) → length input % 2 ≡ 0 → allWords (samples input) ≡ true
-    → encodeNumber s₀ (length input / 2) (length out₀) ≡ done → Encodes s₀ input out₀ s₀ out₀ 0 0
-encodes-none s₀ input out₀ even words taken =
-    let all : length out₀ - 0 ≡ length out₀ = omega arith in
-    record {
-      within = omega arith;
-      even = omega arith;
-      words = words;
-      inside = omega arith;
-      taken = rw (length-samples input, all) taken;
-      session = refl;
-      written = starts;
-    }
+  abbrev pub bytesOf : Filters → List ℤ → List ℕ
+  bytesOf f xs = bytesOfPairs f (pairsAt rate xs)
 
--- a turn: n samples are taken, and at most so many as an even number
-module _ {s₀ : Encoder} {input out₀ : List ℕ} {s : Encoder} {out : List ℕ} {i o : ℕ} (w : Encodes s₀ input out₀ s out i o)
-    (most : ℕ) {n : ℕ} (even : most % 2 ≡ 0) (size : n ≡ min most ((length input - i) / 2)) where
-  abbrev end : ℕ
-  end = i + 2 * n
+  -- what is left of the input at i; it ends with a pair
+  pub record Encodes (f₀ : Filters) (input out₀ : List ℕ) (f : Filters) (out : List ℕ) (i o : ℕ) : Type 0 where
+    pub within : i ≤ length input
+    pub even : (length input - i) % 2 ≡ 0
+    pub pairs : oddAt rate (length (samples (drop i input))) ≡ false
+    pub coding : Coding filtersAfter bytesOf f₀ (samples input) out₀ f (samples (drop i input)) out o
 
-  abbrev piece : List ℤ
-  piece = samples (midOf i (end - i) input)
-
-  abbrev rest : List ℤ
-  rest = samples (drop end input)
-
-  end-within : end ≤ length input
-  end-within = omega (arith, w .within)
-
-  pub part-long : length (midOf i (end - i) input) ≡ 2 * n
-  part-long = omega (arith, mid-len i end input end-within)
-
-  pub piece-long : length piece ≡ n
-  piece-long = omega (arith, length-samples (midOf i (end - i) input), part-long)
-
-  cut : samples (drop i input) ≡ piece ++ rest
-  cut = ap samples (apart input i end (omega arith)) ∙ samples-cut (midOf i (end - i) input) (drop end input) (omega (arith, part-long))
-
-  pairs : oddAt (s .rate) (length piece) ≡ false
-  pairs =
-      let all = encode-taken s (length (samples (drop i input))) (length out - o) (w .taken) .even in
-      rw (piece-long, size) (no-odd (s .rate) most _ even (rw (length-samples (drop i input), length-drop i input) at all))
-
-  whole : encodeNumber s (length (piece ++ rest)) (length out - o) ≡ done
-  whole = rw cut at (w .taken)
-
-  roomy : encodeRoom (s .rate) (length piece) + encodeRoom (s .rate) (length rest) ≤ length out - o
-  roomy = omega (arith, encode-taken s (length (piece ++ rest)) (length out - o) whole .roomy, encode-count-cut s piece rest pairs)
-
-  next : Encodes s₀ input out₀ (encoderAfter s piece) (sets out o (encodedBytes s piece)) end (o + encodeRoom (s .rate) (length piece))
-  next =
-      let words = words-apart piece rest (rw cut at (w .words)) in
-      let same = length-sets out o (encodedBytes s piece) in
+  pub encodes-none : (f₀ : Filters) (input out₀ : List ℕ) → length input % 2 ≡ 0 → oddAt rate (length input / 2) ≡ false
+      → encodeRoom rate (length input / 2) ≤ length out₀ → Encodes f₀ input out₀ f₀ out₀ 0 0
+  encodes-none f₀ input out₀ even pairs room =
+      let n = length-samples input in
       record {
-        within = end-within;
-        even = omega (arith, w .even);
-        words = words .1;
-        inside = omega (arith, w .inside, roomy);
-        taken = encode-second s piece rest (length out - o) pairs whole _ (omega (arith, w .inside, roomy)) (words .0);
-        session = sym (encoder-cut s piece rest pairs) ∙ (rw cut at (w .session));
-        written = puts (encodedBytes s piece) _ (encoded-length s piece) (rw (cut, encoded-cut s piece rest pairs) at (w .written));
+        within = omega arith;
+        even = omega arith;
+        pairs = rw n pairs;
+        coding = coding-none _ _ (rw (bytes-encoded-length rate f₀ (samples input), n) room);
       }
 
-  accepted : encodeNumber s (length piece) (length (partOf o out)) ≡ done
-  accepted = encode-first s piece rest (length out - o) pairs whole (length (partOf o out)) (omega (arith, roomy, part-length o out))
+  -- a turn: n samples are taken, and at most so many as an even number
+  module _ {f₀ : Filters} {input out₀ : List ℕ} {f : Filters} {out : List ℕ} {i o : ℕ} (w : Encodes f₀ input out₀ f out i o)
+      (most : ℕ) {n : ℕ} (even : most % 2 ≡ 0) (size : n ≡ min most ((length input - i) / 2)) where
+    abbrev end : ℕ
+    end = i + 2 * n
 
-  -- the samples of the piece stand before others; the call on them is accepted
-  module _ {unpacked : List ℤ} (more : List ℤ) (is : unpacked ≡ piece) where
-    front : take n (unpacked ++ more) ≡ piece
-    front = rw is (take-at piece more n piece-long)
+    abbrev piece : List ℤ
+    piece = samples (midOf i (end - i) input)
 
-    pub front-long : length (take n (unpacked ++ more)) ≡ n
-    front-long = ap length front ∙ piece-long
+    abbrev rest : List ℤ
+    rest = samples (drop end input)
 
-    pub front-accepted : encodeNumber s (length (take n (unpacked ++ more))) (length (partOf o out)) ≡ done
-    front-accepted = rw front accepted
+    end-within : end ≤ length input
+    end-within = omega (arith, w .within)
 
-    pub encodes-more : {r : EncoderAnswer} {left : List ℕ} → r ≡ encodeAnswer s (take n (unpacked ++ more)) (length (partOf o out))
-        → left ≡ encodeOut s (take n (unpacked ++ more)) (partOf o out)
-        → Encodes s₀ input out₀ (r .session) (putPart o out left) end (o + r .count)
-    encodes-more answered written =
-        let d = encode-done s piece (partOf o out) accepted in
-        rw (answered, written, front, sym (d .0), sym (d .1), sets-part o out (encodedBytes s piece) (w .inside)) next
+    pub part-long : length (midOf i (end - i) input) ≡ 2 * n
+    part-long = omega (arith, mid-len i end input end-within)
 
--- ---- the end
+    pub piece-long : length piece ≡ n
+    piece-long = omega (arith, length-samples (midOf i (end - i) input), part-long)
 
-nothing-encoded : (s : Encoder) (room : ℕ) → encodeNumber s 0 room ≡ done → (encoderAfter s [] ≡ s) × (encodedBytes s [] ≡ [])
-unfolding encodeAnswer
-nothing-encoded s room t =
-    let e = rw t at (encode-empty s room (encode-taken s 0 room t .inside)) in
-    (ap (λ (r : EncoderAnswer). r .session) e, no-items (encoded-length s [] ∙ ap (λ (r : EncoderAnswer). r .count) e))
+    cut : samples (drop i input) ≡ piece ++ rest
+    cut = ap samples (apart input i end (omega arith)) ∙ samples-cut (midOf i (end - i) input) (drop end input) (omega (arith, part-long))
 
-pub encodes-all : {s₀ : Encoder} {input out₀ : List ℕ} {s : Encoder} {out : List ℕ} {i o : ℕ} → Encodes s₀ input out₀ s out i o
-    → length input ≤ i
-    → (s ≡ encoderAfter s₀ (samples input)) × (out ≡ sets out₀ 0 (encodedBytes s₀ (samples input)))
-encodes-all {input = input} {s = s} {out = out} {o = o} w none =
-    let e = drop-of-length-le input none in
-    let still = nothing-encoded s (length out - o) (rw e at (w .taken)) in
-    (sym (still .0) ∙ (rw e at (w .session)), ends (w .written) (rw (e, still .1)))
+    first : oddAt rate (length piece) ≡ false
+    first = rw (piece-long, size) (no-odd rate most _ even (rw (length-samples (drop i input), length-drop i input) at (w .pairs)))
+
+    written-long : length (bytesOf f piece) ≡ encodeRoom rate n
+    written-long = bytes-encoded-length rate f piece ∙ ap (encodeRoom rate) piece-long
+
+    pub inside : o + encodeRoom rate n ≤ length out
+    inside =
+        rw written-long at
+        (coding-room _ _ (w .coding) piece rest cut (filters-encoded-cut rate f piece rest first) (bytes-encoded-cut rate f piece rest first))
+
+    next : Encodes f₀ input out₀ (filtersAfter f piece) (sets out o (bytesOf f piece)) end (o + encodeRoom rate n)
+    next = record {
+      within = end-within;
+      even = omega (arith, w .even);
+      pairs = even-rest rate (length piece) (length rest) first (rw (cut, length-append piece rest) at (w .pairs));
+      coding = rw written-long at
+          (coding-more _ _ (w .coding) piece rest cut (filters-encoded-cut rate f piece rest first) (bytes-encoded-cut rate f piece rest first));
+    }
+
+    -- the samples of the piece stand before others
+    module _ {unpacked : List ℤ} (more : List ℤ) (is : unpacked ≡ piece) where
+      front : take n (unpacked ++ more) ≡ piece
+      front = rw is (take-at piece more n piece-long)
+
+      pub front-long : length (take n (unpacked ++ more)) ≡ n
+      front-long = ap length front ∙ piece-long
+
+      pub front-room : encodeRoom rate (length (take n (unpacked ++ more))) ≤ length (partOf o out)
+      front-room = rw front-long (omega (arith, inside, part-length o out))
+
+      pub encodes-more : {g : Filters} {left : List ℕ} → g ≡ filtersAfter f (take n (unpacked ++ more))
+          → left ≡ sets (partOf o out) 0 (bytesOf f (take n (unpacked ++ more)))
+          → Encodes f₀ input out₀ g (putPart o out left) end (o + encodeRoom rate n)
+      encodes-more answered written = rw (answered, written, front, sets-part o out (bytesOf f piece) (omega (arith, inside))) next
+
+  pub encodes-all : {f₀ : Filters} {input out₀ : List ℕ} {f : Filters} {out : List ℕ} {i o : ℕ} → Encodes f₀ input out₀ f out i o
+      → length input ≤ i → (f ≡ filtersAfter f₀ (samples input)) × (out ≡ sets out₀ 0 (bytesOf f₀ (samples input)))
+  unfolding filtersAfterPairs bytesOfPairs
+  encodes-all {input = input} {f = f} w none =
+      coding-all _ _ (w .coding) (ap samples (drop-of-length-le input none))
+      (ap (filtersAfterPairs f) (no-pairs rate)) (ap (bytesOfPairs f) (no-pairs rate))

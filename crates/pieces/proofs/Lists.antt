@@ -55,10 +55,6 @@ module _ {A : Type 0} (o : ℕ) (l : List A) where
 pub apart : {A : Type 0} (l : List A) (i e : ℕ) → i ≤ e → drop i l ≡ midOf i (e - i) l ++ drop e l
 apart {A} l i e h = sym (take-append-drop (e - i) (drop i l)) ∙ ap (λ (r : List A). midOf i (e - i) l ++ r) (post-is i e l h)
 
-pub no-items : {A : Type 0} {l : List A} → length l ≡ 0 → l ≡ []
-no-items {l = []} e = refl
-no-items {l = x ∷ l} e = absurd (omega arith)
-
 -- ---- samples and bytes
 
 pub samples-cut : (a b : List ℕ) → length a % 2 ≡ 0 → samples (a ++ b) ≡ samples a ++ samples b
@@ -81,9 +77,3 @@ samples-words (lo ∷ (hi ∷ bs)) h =
     let small : lo + 256 * hi < 65536 = omega (arith, h 0, h 1) in
     let word = in16-of (sampleOf lo hi) (sfits-toZ {w = w16} (record { fits = small })) in
     more-words (sampleOf lo hi) (samples bs) word (samples-words bs (λ k. h (suc (suc k))))
-
-pub words-apart : (a b : List ℤ) → allWords (a ++ b) ≡ true → (allWords a ≡ true) × (allWords b ≡ true)
-words-apart [] b w = (no-words, w)
-words-apart (z ∷ a) b w =
-    let r = words-apart a b (tail-words z (a ++ b) w) in
-    (more-words z a (head-word z (a ++ b) w) (r .0), r .1)

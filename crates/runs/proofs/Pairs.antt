@@ -7,14 +7,14 @@ use mathlib.Core.Path.{_≡_, refl, sym, ap, _∙_}
 use mathlib.Core.List.{List, [], _∷_, _++_, append-assoc}
 use lib.IntN.{ℤ, pos}
 use lib.Dec.{eqb}
-use lib.ListN.{length, drop, getD, set, drop-of-length-le, length-append, length-drop}
-use lib.Seq.{sets, drop-cons}
+use lib.ListN.{length, drop, getD, drop-of-length-le, length-append, length-drop}
+use lib.Seq.{drop-cons}
 use borrow.Author.Tests.{eqb-true, not-false}
 use Rattle.band.specs.declared.Filters.{Filters}
 use Rattle.step.specs.Step.{decodeStep}
-use Rattle.g722.specs.Rates.{resamples, encodeRoom, decodeRoom, oddAt}
-use Rattle.g722.specs.Runs.{Pair, pair, doubled, paired, pairsAt, keptOf, keptAt, pairsOfBytes}
-use Rattle.g722.proofs.RateLaws.{aheadAt, no-samples, decode-room-cut}
+use Rattle.runs.specs.Rates.{resamples, encodeRoom, decodeRoom, oddAt}
+use Rattle.runs.specs.Runs.{Pair, pair, doubled, paired, pairsAt, keptOf, keptAt, pairsOfBytes}
+use Rattle.runs.proofs.RateLaws.{aheadAt, nothing, no-samples, decode-room-cut}
 
 -- ---- the encoder's next pair
 
@@ -57,6 +57,10 @@ module _ (rate : ℕ) (xs : List ℤ) (i : ℕ) where
   pub pairs-none : length xs ≤ i + aheadAt rate → pairsAt rate (drop i xs) ≡ []
   unfolding pairsAt
   pairs-none = none-by xs i (resamples rate)
+
+pub no-pairs : (rate : ℕ) → pairsAt rate [] ≡ []
+unfolding pairsAt doubled paired
+no-pairs rate = nothing (resamples rate) []
 
 -- ---- as many items as the room says
 
@@ -128,7 +132,3 @@ pub kept-cut : (rate : ℕ) (ps qs : List Pair) → keptAt rate (ps ++ qs) ≡ k
 unfolding keptAt
 kept-cut rate [] qs = refl
 kept-cut rate (p ∷ ps) qs = rw (kept-cut rate ps qs, append-assoc)
-
-pub sets-cut : {A : Type 0} (a b : List A) (out : List A) (i : ℕ) → sets out i (a ++ b) ≡ sets (sets out i a) (i + length a) b
-sets-cut [] b out i = let here : i + 0 ≡ i = omega arith in rw here
-sets-cut (x ∷ a) b out i = let next : i + suc (length a) ≡ suc i + length a = omega arith in rw next (sets-cut a b (set out i x) (suc i))

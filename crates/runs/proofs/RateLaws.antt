@@ -5,7 +5,7 @@ use mathlib.Core.Bool.{Bool, true, false, cond, not, _&&_}
 use mathlib.Core.Path.{_≡_, refl}
 use lib.Dec.{eqb}
 use borrow.Author.Tests.{eqb-true, eq-eqb, not-false}
-use Rattle.g722.specs.Rates.{resamples, encodeRoom, decodeRoom, encoderMoves, decoderMoves, oddAt}
+use Rattle.runs.specs.Rates.{resamples, encodeRoom, decodeRoom, oddAt}
 
 -- how far the second sample of a pair stands behind the first
 abbrev pub aheadAt : ℕ → ℕ
@@ -31,14 +31,6 @@ no-bytes rate = nothing (resamples rate) 0
 pub no-samples : (rate : ℕ) → decodeRoom rate 0 ≡ 0
 unfolding decodeRoom
 no-samples rate = nothing (resamples rate) 0
-
-pub encoder-stays : (rate : ℕ) → encoderMoves rate 0 ≡ 0
-unfolding encoderMoves
-encoder-stays rate = refl
-
-pub decoder-stays : (rate : ℕ) → decoderMoves rate 0 ≡ 0
-unfolding decoderMoves
-decoder-stays = no-samples
 
 not-odd-by : (t : Bool) → (not t && false) ≡ false
 not-odd-by true = refl
@@ -77,14 +69,6 @@ pub decode-room-cut : (rate m n : ℕ) → decodeRoom rate (m + n) ≡ decodeRoo
 unfolding decodeRoom
 decode-room-cut rate m n = decode-room-cut-by (resamples rate) m n
 
-pub encoder-moves-cut : (rate m n : ℕ) → oddAt rate m ≡ false → encoderMoves rate (m + n) ≡ encoderMoves rate m + encoderMoves rate n
-unfolding encoderMoves
-encoder-moves-cut rate m n even = refl
-
-pub decoder-moves-cut : (rate m n : ℕ) → decoderMoves rate (m + n) ≡ decoderMoves rate m + decoderMoves rate n
-unfolding decoderMoves
-decoder-moves-cut = decode-room-cut
-
 even-rest-by : (t : Bool) (m n : ℕ) → (not t && not (eqb (m % 2) 0)) ≡ false → (not t && not (eqb ((m + n) % 2) 0)) ≡ false
     → (not t && not (eqb (n % 2) 0)) ≡ false
 even-rest-by true m n p q = refl
@@ -96,7 +80,3 @@ even-rest-by false m n p q =
 pub even-rest : (rate m n : ℕ) → oddAt rate m ≡ false → oddAt rate (m + n) ≡ false → oddAt rate n ≡ false
 unfolding oddAt
 even-rest rate = even-rest-by (resamples rate)
-
--- the position is moved by a sum
-pub on : (position k m n : ℕ) → k ≡ m + n → position + k ≡ position + m + n
-on position k m n e = omega arith

@@ -8,11 +8,11 @@ use mir.Val.{SFits}
 use mir.Facts.{toZ-ofZ}
 use borrow.Author.Needs.{needs}
 use Rattle.step.specs.Step.{decodeStep}
-use Rattle.g722.specs.Rates.{decodeRoom}
-use Rattle.g722.specs.Runs.{pair, keptOf}
-use Rattle.g722.proofs.Loops.{Decodes, decodes-none, decodes-more, decodes-all}
-use Rattle.g722.proofs.runs.decode_bytes.Statement.{statement}
-use Rattle.g722.proofs.runs.decode_bytes.Tie as tie
+use Rattle.runs.specs.Rates.{decodeRoom}
+use Rattle.runs.specs.Runs.{pair, keptOf}
+use Rattle.runs.proofs.Loops.{Decodes, decodes-none, decodes-more, decodes-all}
+use Rattle.runs.proofs.decode_bytes.Statement.{statement}
+use Rattle.runs.proofs.decode_bytes.Tie as tie
 
 abbrev Inv-loop : tie.InvT-loop
 Inv-loop qm6 qm4 wl rl42 ilb qm2 wh rh2 qmf rate input out₀ g₀ i₀ o₀ out g i o = Decodes rate input out₀ g₀ out g i o
@@ -58,7 +58,7 @@ loop-again c =
     rw (c .before .put-kept .ensures .0, c .before .put-kept .ensures .1, toZ-ofZ first, toZ-ofZ second, r .ensures) (turned t .1)
 
 same-length : tie.Need-same-length Inv-loop μ-loop
-same-length c = c .before .loop .inv .samples .long
+same-length c = c .before .loop .inv .coding .written .long
 
 returns : tie.Need-returns Inv-loop μ-loop
 returns c = decodes-all _ _ _ _ _ _ _ _ (c .before .loop .inv) (c .loop-test .left)

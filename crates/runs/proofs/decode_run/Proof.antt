@@ -1,8 +1,8 @@
 -- `runs::decode_run` hands the tables of the standard on.
 use mathlib.Core.Path.{refl}
 use borrow.Author.Needs.{needs}
-use Rattle.g722.proofs.runs.decode_run.Statement.{statement}
-use Rattle.g722.proofs.runs.decode_run.Tie as tie
+use Rattle.runs.proofs.decode_run.Statement.{statement}
+use Rattle.runs.proofs.decode_run.Tie as tie
 
 decode-bytes-requires : tie.Need-decode-bytes-requires
 decode-bytes-requires c κs = (

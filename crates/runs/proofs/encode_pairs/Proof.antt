@@ -8,10 +8,10 @@ use mir.Syntax.{w16}
 use mir.Val.{SFits}
 use mir.Facts.{toZ-ofZ}
 use Rattle.step.specs.Step.{encodeStep}
-use Rattle.g722.proofs.RateLaws.{aheadAt, ahead-le}
-use Rattle.g722.proofs.Loops.{Encodes, encodes-none, encodes-more, encodes-all}
-use Rattle.g722.proofs.runs.encode_pairs.Statement.{statement}
-use Rattle.g722.proofs.runs.encode_pairs.Tie as tie
+use Rattle.runs.proofs.RateLaws.{aheadAt, ahead-le}
+use Rattle.runs.proofs.Loops.{Encodes, encodes-none, encodes-more, encodes-all}
+use Rattle.runs.proofs.encode_pairs.Statement.{statement}
+use Rattle.runs.proofs.encode_pairs.Tie as tie
 
 abbrev Inv-loop : tie.InvT-loop
 Inv-loop qmf q6 iln ilp qm4 wl rl42 ilb ihn ihp qm2 wh rh2 rate input out₀ ahead g₀ i₀ o₀ out g i o = Encodes rate input out₀ g₀ out g i o
@@ -29,7 +29,7 @@ turned c = encodes-more _ _ _ _ _ _ _ _ (c .before .loop .inv) (rw (c .before .b
 
 fits : (c : tie.In-loop Inv-loop μ-loop) → let l = c .before .loop in
     (l .i + (c .before .before .ahead-at .result + 1) < 2 ^ 63) × (l .o + 1 < 2 ^ 63)
-fits c = (omega arith, omega (arith, turned c .0, c .before .loop .inv .bytes .long))
+fits c = (omega arith, omega (arith, turned c .0, c .before .loop .inv .coding .written .long))
 
 ahead-at-requires : tie.Need-ahead-at-requires Inv-loop μ-loop
 ahead-at-requires c κs = tt
@@ -85,7 +85,7 @@ loop-again c =
     rw (e, t .before .before .ahead-at .ensures) (turned t .1)
 
 same-length : tie.Need-same-length Inv-loop μ-loop
-same-length c = c .before .loop .inv .bytes .long
+same-length c = c .before .loop .inv .coding .written .long
 
 returns : tie.Need-returns Inv-loop μ-loop
 returns c = encodes-all _ _ _ _ _ _ _ _ (c .before .loop .inv) (rw (c .before .before .ahead-at .ensures) at (c .loop-test .left))

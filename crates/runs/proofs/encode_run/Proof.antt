@@ -1,8 +1,8 @@
 -- `runs::encode_run` hands the tables of the standard on.
 use mathlib.Core.Path.{refl}
 use borrow.Author.Needs.{needs}
-use Rattle.g722.proofs.runs.encode_run.Statement.{statement}
-use Rattle.g722.proofs.runs.encode_run.Tie as tie
+use Rattle.runs.proofs.encode_run.Statement.{statement}
+use Rattle.runs.proofs.encode_run.Tie as tie
 
 encode-pairs-requires : tie.Need-encode-pairs-requires
 encode-pairs-requires c κs = (

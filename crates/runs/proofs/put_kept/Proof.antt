@@ -8,11 +8,11 @@ use mir.Val.{SFits}
 use mir.Facts.{toZ-ofZ}
 use borrow.Author.Needs.{needs}
 use borrow.Author.Tests.{eq-eqb, ne-eqb}
-use Rattle.g722.specs.Rates.{decodeRoom}
-use Rattle.g722.specs.Runs.{keptOf}
-use Rattle.g722.proofs.RateLaws.{room-one}
-use Rattle.g722.proofs.runs.put_kept.Statement.{statement}
-use Rattle.g722.proofs.runs.put_kept.Tie as tie
+use Rattle.runs.specs.Rates.{decodeRoom}
+use Rattle.runs.specs.Runs.{keptOf}
+use Rattle.runs.proofs.RateLaws.{room-one}
+use Rattle.runs.proofs.put_kept.Statement.{statement}
+use Rattle.runs.proofs.put_kept.Tie as tie
 
 put-requires : tie.Need-put-requires
 put-requires c κs = omega (arith, room-one (c .before .args .rate), c .before .pre)

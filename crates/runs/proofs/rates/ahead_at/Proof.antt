@@ -1,7 +1,7 @@
 -- `rates::ahead_at` goes by the rate.
 use borrow.Author.Tests.{eq-eqb, ne-eqb}
-use Rattle.g722.proofs.rates.ahead_at.Statement.{statement}
-use Rattle.g722.proofs.rates.ahead_at.Tie as tie
+use Rattle.runs.proofs.rates.ahead_at.Statement.{statement}
+use Rattle.runs.proofs.rates.ahead_at.Tie as tie
 
 returns : tie.Need-returns
 returns c = rw (eq-eqb _ _ (c .if1 .taken))

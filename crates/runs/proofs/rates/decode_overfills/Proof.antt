@@ -5,9 +5,9 @@ use mathlib.Core.Bool.{Bool, true, false}
 use mathlib.Core.Path.{_≡_, refl, sym, _∙_}
 use lib.Dec.{ltb}
 use borrow.Author.Tests.{eq-eqb, ne-eqb, ltb-true, ltb-false, lt-ltb, le-ltb}
-use Rattle.g722.specs.Rates.{decodeRoom}
-use Rattle.g722.proofs.rates.decode_overfills.Statement.{statement}
-use Rattle.g722.proofs.rates.decode_overfills.Tie as tie
+use Rattle.runs.specs.Rates.{decodeRoom}
+use Rattle.runs.proofs.rates.decode_overfills.Statement.{statement}
+use Rattle.runs.proofs.rates.decode_overfills.Tie as tie
 
 halves-by : (room n : ℕ) (t : Bool) → ltb (room / 2) n ≡ t → ltb (room / 2) n ≡ ltb room (2 * n)
 halves-by room n true e = let l = ltb-true (room / 2) n e in e ∙ sym (lt-ltb room (2 * n) (omega arith))

@@ -1,9 +1,9 @@
 -- `rates::decode_room` goes by the rate.
 use borrow.Author.Needs.{needs}
 use borrow.Author.Tests.{eq-eqb, ne-eqb}
-use Rattle.g722.specs.Rates.{decodeRoom}
-use Rattle.g722.proofs.rates.decode_room.Statement.{statement}
-use Rattle.g722.proofs.rates.decode_room.Tie as tie
+use Rattle.runs.specs.Rates.{decodeRoom}
+use Rattle.runs.proofs.rates.decode_room.Statement.{statement}
+use Rattle.runs.proofs.rates.decode_room.Tie as tie
 
 returns : tie.Need-returns
 unfolding decodeRoom

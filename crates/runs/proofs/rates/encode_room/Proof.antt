@@ -1,8 +1,8 @@
 -- `rates::encode_room` goes by the rate.
 use borrow.Author.Tests.{eq-eqb, ne-eqb}
-use Rattle.g722.specs.Rates.{encodeRoom}
-use Rattle.g722.proofs.rates.encode_room.Statement.{statement}
-use Rattle.g722.proofs.rates.encode_room.Tie as tie
+use Rattle.runs.specs.Rates.{encodeRoom}
+use Rattle.runs.proofs.rates.encode_room.Statement.{statement}
+use Rattle.runs.proofs.rates.encode_room.Tie as tie
 
 returns : tie.Need-returns
 unfolding encodeRoom

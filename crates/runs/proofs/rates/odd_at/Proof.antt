@@ -1,8 +1,8 @@
 -- `rates::odd_at` is its definition.
 use borrow.Author.Needs.{needs}
-use Rattle.g722.specs.Rates.{oddAt}
-use Rattle.g722.proofs.rates.odd_at.Statement.{statement}
-use Rattle.g722.proofs.rates.odd_at.Tie as tie
+use Rattle.runs.specs.Rates.{oddAt}
+use Rattle.runs.proofs.rates.odd_at.Statement.{statement}
+use Rattle.runs.proofs.rates.odd_at.Tie as tie
 
 returns : tie.Need-returns
 unfolding oddAt
