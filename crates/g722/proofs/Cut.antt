@@ -14,7 +14,7 @@ use Rattle.g722.specs.declared.Decoder.{Decoder}
 use Rattle.g722.specs.Session.{encoderMoves, decoderMoves}
 use Rattle.g722.specs.Encoding.{encoderAt, encoderAfter, encodedBytes}
 use Rattle.g722.specs.Decoding.{decoderAt, decoderAfter, decodedSamples}
-use Rattle.g722.proofs.Moves.{encoder-moves-cut, decoder-moves-cut, on}
+use Rattle.g722.proofs.MovedOn.{encoder-moves-cut, decoder-moves-cut, on}
 
 -- ---- encoders; at rates other than 8000 the first part ends with a pair
 

@@ -10,17 +10,15 @@ use mathlib.Core.List.{List, []}
 use Rattle.answers.specs.Numbers.{done}
 use Rattle.g722.specs.declared.Encoder.{Encoder}
 use Rattle.g722.specs.declared.Decoder.{Decoder}
-use Rattle.g722.specs.Rates.{resamples, encoderMoves, decoderMoves}
-use Rattle.g722.specs.Runs.{doubled, paired, pairsAt, keptAt, filtersAfterPairs, bytesOfPairs, filtersAfterBytes, pairsOfBytes}
+use Rattle.runs.specs.Runs.{keptAt, filtersAfterPairs, bytesOfPairs, filtersAfterBytes, pairsOfBytes}
+use Rattle.runs.proofs.RateLaws.{nothing, no-bytes, no-samples, not-odd}
+use Rattle.runs.proofs.Pairs.{no-pairs}
+use Rattle.g722.specs.Session.{encoderMoves, decoderMoves}
 use Rattle.g722.specs.Encoding.{encoderReply, encoderInBounds, encoderAfter, encodedBytes, encodeNumber, encodeAnswer, encodeOut}
 use Rattle.g722.specs.Decoding.{decoderReply, decoderInBounds, decoderAfter, decodedSamples, decodeNumber, decodeAnswer, decodeOut}
-use Rattle.g722.proofs.RateLaws.{nothing, no-bytes, no-samples, encoder-stays, decoder-stays, not-odd}
+use Rattle.g722.proofs.MovedOn.{encoder-stays, decoder-stays}
 use Rattle.g722.proofs.Numbers.{taken-encodes, taken-decodes}
 use Rattle.g722.proofs.Sound.{position-in}
-
-no-pairs : (rate : ℕ) → pairsAt rate [] ≡ []
-unfolding pairsAt doubled paired
-no-pairs rate = nothing (resamples rate) []
 
 pub encode-empty : (s : Encoder) (room : ℕ) → encoderInBounds s ≡ true → encodeAnswer s [] room ≡ encoderReply done 0 s
 unfolding encodeAnswer encoderAfter filtersAfterPairs

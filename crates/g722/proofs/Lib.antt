@@ -1,11 +1,8 @@
-pub mod RateLaws
-pub mod Pairs
-pub mod Loops
 pub mod Numbers
+pub mod MovedOn
 pub mod Cut
 pub mod Written
 pub mod Sound
-pub mod Pieces
 pub mod Empty
 pub mod Agree
 pub mod Determined

@@ -9,7 +9,7 @@ use lib.Seq.{sets, sets-eq}
 use Rattle.answers.specs.Numbers.{done}
 use Rattle.g722.specs.declared.Encoder.{Encoder}
 use Rattle.g722.specs.declared.Decoder.{Decoder}
-use Rattle.g722.specs.Rates.{encodeRoom, decodeRoom}
+use Rattle.runs.specs.Rates.{encodeRoom, decodeRoom}
 use Rattle.g722.specs.Encoding.{encodedBytes, encodeNumber, encodeOut}
 use Rattle.g722.specs.Decoding.{decodedSamples, decodeNumber, decodeOut}
 use Rattle.g722.proofs.Numbers.{encode-taken, encode-done, decode-taken, decode-done}

@@ -1,5 +1,5 @@
--- What an encoder's calls answer, and what `encode` leaves in the output (docs/RULES.md, "Answers").
-use Prim.Native.Nat.{ℕ, _+_}
+-- What an encoder's calls answer, and what encoding leaves in the output (docs/RULES.md, "Answers", "Samples as bytes").
+use Prim.Native.Nat.{ℕ, _+_, _/_, _%_}
 use mathlib.Core.Bool.{Bool, cond, not}
 use mathlib.Core.List.{List}
 use lib.IntN.{ℤ}
@@ -10,9 +10,10 @@ use Rattle.answers.specs.Lent.{leaves}
 use Rattle.band.specs.declared.Filters.{Filters}
 use Rattle.g722.specs.declared.Encoder.{Encoder}
 use Rattle.g722.specs.declared.EncoderAnswer.{EncoderAnswer}
-use Rattle.g722.specs.Rates.{encodeRoom, encoderMoves, oddAt}
-use Rattle.g722.specs.Runs.{pairsAt, filtersAfterPairs, bytesOfPairs}
-use Rattle.g722.specs.Session.{positionMost, sessionInBounds, beginNumber, startBegun, freshAt}
+use Rattle.samples.specs.Bytes.{samples}
+use Rattle.runs.specs.Rates.{encodeRoom, oddAt}
+use Rattle.runs.specs.Runs.{pairsAt, filtersAfterPairs, bytesOfPairs}
+use Rattle.g722.specs.Session.{positionMost, encoderMoves, sessionInBounds, beginNumber, startBegun, freshAt}
 
 abbrev pub encoderAt : ℕ → ℕ → ℕ → Filters → Encoder
 encoderAt rate start position filters = record { rate = rate; start = start; position = position; filters = filters }
@@ -26,11 +27,13 @@ encoderBegun rate start = encoderReply (beginNumber start) 0 (encoderAt rate (st
 abbrev pub encoderInBounds : Encoder → Bool
 encoderInBounds s = sessionInBounds (s .start) (s .position) (s .filters)
 
+-- n samples further on, with these filters
+abbrev pub encoderOn : Encoder → ℕ → Filters → Encoder
+encoderOn s n filters = encoderAt (s .rate) (s .start) (s .position + encoderMoves (s .rate) n) filters
+
 -- the session after samples that it takes, and the bytes that they give
 unfoldable pub encoderAfter : Encoder → List ℤ → Encoder
-encoderAfter s xs =
-    let position = s .position + encoderMoves (s .rate) (length xs) in
-    encoderAt (s .rate) (s .start) position (filtersAfterPairs (s .filters) (pairsAt (s .rate) xs))
+encoderAfter s xs = encoderOn s (length xs) (filtersAfterPairs (s .filters) (pairsAt (s .rate) xs))
 
 unfoldable pub encodedBytes : Encoder → List ℤ → List ℕ
 encodedBytes s xs = bytesOfPairs (s .filters) (pairsAt (s .rate) xs)
@@ -44,10 +47,25 @@ encodeNumber s n room =
     (cond (ltb positionMost (s .position + encoderMoves (s .rate) n)) positionPastEnd
     done)))
 
+-- the answer with this number: done, it counts so many items and hands back the session after; refused, the one given
+abbrev pub encoderAnswered : ℕ → ℕ → Encoder → Encoder → EncoderAnswer
+encoderAnswered number count after s = cond (eqb number done) (encoderReply done count after) (encoderReply number 0 s)
+
 unfoldable pub encodeAnswer : Encoder → List ℤ → ℕ → EncoderAnswer
-encodeAnswer s xs room =
-    let number = encodeNumber s (length xs) room in
-    cond (eqb number done) (encoderReply done (encodeRoom (s .rate) (length xs)) (encoderAfter s xs)) (encoderReply number 0 s)
+encodeAnswer s xs room = encoderAnswered (encodeNumber s (length xs) room) (encodeRoom (s .rate) (length xs)) (encoderAfter s xs) s
 
 unfoldable pub encodeOut : Encoder → List ℤ → List ℕ → List ℕ
 encodeOut s xs out = leaves (encodeNumber s (length xs) (length out)) (encodedBytes s xs) out
+
+-- ---- samples as bytes: half a sample is an odd count
+
+unfoldable pub encodeFromBytesNumber : Encoder → ℕ → ℕ → ℕ
+encodeFromBytesNumber s n room =
+    cond (not (encoderInBounds s)) outOfBounds (cond (not (eqb (n % 2) 0)) oddCount (encodeNumber s (n / 2) room))
+
+unfoldable pub encodeFromBytesAnswer : Encoder → List ℕ → ℕ → EncoderAnswer
+encodeFromBytesAnswer s input room =
+    encoderAnswered (encodeFromBytesNumber s (length input) room) (encodeRoom (s .rate) (length input / 2)) (encoderAfter s (samples input)) s
+
+unfoldable pub encodeFromBytesOut : Encoder → List ℕ → List ℕ → List ℕ
+encodeFromBytesOut s input out = leaves (encodeFromBytesNumber s (length input) (length out)) (encodedBytes s (samples input)) out

@@ -8,11 +8,11 @@ ghost use mathlib.Core.Path.{_≡_};
 ghost use Prim.Native.Nat.{_+_, _≤_, _<_, _^_};
 ghost use lib.ListN.{length};
 ghost use Rattle.answers.specs.Numbers.{done};
-ghost use Rattle.runs.specs.Rates.{encodeRoom, decodeRoom};
+ghost use Rattle.runs.specs.Rates.{encodeRoom};
 ghost use Rattle.g722.specs.Session.{positionMost, encoderMoves, decoderMoves};
-ghost use Rattle.g722.specs.Encoding.{encoderAt, encoderReply, encoderBegun, encoderInBounds, encodeNumber, encodeAnswer, encodeOut};
+ghost use Rattle.g722.specs.Encoding.{encoderReply, encoderBegun, encoderInBounds, encoderOn, encodeNumber, encodeAnswer, encodeOut};
 ghost use Rattle.g722.specs.Encoding.{encodeFromBytesNumber, encodeFromBytesAnswer, encodeFromBytesOut};
-ghost use Rattle.g722.specs.Decoding.{decoderAt, decoderReply, decoderBegun, decoderInBounds, decodeNumber, decodeAnswer, decodeOut};
+ghost use Rattle.g722.specs.Decoding.{decoderReply, decoderBegun, decoderInBounds, decoderOn, decodeNumber, decodeAnswer, decodeOut};
 ghost use Rattle.g722.specs.Decoding.{decodeToBytesAnswer, decodeToBytesOut};
 
 pub const PAYLOAD_TYPE: u8 = 9;
@@ -127,8 +127,7 @@ impl Encoder {
     // The answer once n samples are taken and the filters are these.
     fn taken(self, n: usize, filters: Filters) -> EncoderAnswer
         requires { ⌜ self .position + encoderMoves (self .rate) n ≤ positionMost ⌝ }
-        ensures { λ r. ⌜ r ≡ encoderReply done (encodeRoom (self .rate) n)
-            (encoderAt (self .rate) (self .start) (self .position + encoderMoves (self .rate) n) filters) ⌝ }
+        ensures { λ r. ⌜ r ≡ encoderReply done (encodeRoom (self .rate) n) (encoderOn self n filters) ⌝ }
     {
         let session = Encoder {
             rate: self.rate,
@@ -232,7 +231,7 @@ impl Decoder {
     // The session once n bytes are taken and the filters are these.
     fn taken(self, n: usize, filters: Filters) -> Decoder
         requires { ⌜ (n < 2 ^ 63) × (self .position + decoderMoves (self .rate) n ≤ positionMost) ⌝ }
-        ensures { λ r. ⌜ r ≡ decoderAt (self .rate) (self .start) (self .position + decoderMoves (self .rate) n) filters ⌝ }
+        ensures { λ r. ⌜ r ≡ decoderOn self n filters ⌝ }
     {
         Decoder {
             rate: self.rate,

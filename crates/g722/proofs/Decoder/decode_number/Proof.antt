@@ -6,8 +6,8 @@ use mathlib.Core.Path.{_≡_, sym, _∙_}
 use lib.Dec.{ltb}
 use borrow.Author.Needs.{needs}
 use borrow.Author.Tests.{ltb-true, ltb-false, lt-ltb, le-ltb, not-true, not-false}
-use Rattle.g722.specs.Rates.{decodeRoom, decoderMoves}
-use Rattle.g722.specs.Session.{positionMost}
+use Rattle.runs.specs.Rates.{decodeRoom}
+use Rattle.g722.specs.Session.{positionMost, decoderMoves}
 use Rattle.g722.specs.Decoding.{decoderInBounds, decodeNumber}
 use Rattle.g722.proofs.Decoder.decode_number.Statement.{statement}
 use Rattle.g722.proofs.Decoder.decode_number.Tie as tie

@@ -6,8 +6,8 @@ use mathlib.Core.Path.{_≡_, sym, _∙_}
 use lib.Dec.{ltb}
 use borrow.Author.Needs.{needs}
 use borrow.Author.Tests.{lt-ltb, le-ltb, not-true, not-false}
-use Rattle.g722.specs.Rates.{encodeRoom, encoderMoves, oddAt}
-use Rattle.g722.specs.Session.{positionMost}
+use Rattle.runs.specs.Rates.{encodeRoom, oddAt}
+use Rattle.g722.specs.Session.{positionMost, encoderMoves}
 use Rattle.g722.specs.Encoding.{encoderInBounds, encodeNumber}
 use Rattle.g722.proofs.Encoder.encode_number.Statement.{statement}
 use Rattle.g722.proofs.Encoder.encode_number.Tie as tie
