@@ -12,12 +12,11 @@ use Rattle.answers.specs.Numbers.{done, oddCount, noRoom}
 use Rattle.samples.specs.Bytes.{samples, bytes}
 use Rattle.samples.proofs.Bytes.{length-samples}
 use Rattle.band.specs.Bounds.{allWords}
-use Rattle.g722.specs.declared.Encoder.{Encoder}
 use Rattle.g722.specs.declared.EncoderAnswer.{EncoderAnswer}
-use Rattle.g722.specs.declared.Decoder.{Decoder}
 use Rattle.g722.specs.declared.DecoderAnswer.{DecoderAnswer}
-use Rattle.g722.specs.Encoding.{encoderAfter, encodedBytes, encodeNumber}
-use Rattle.g722.specs.Decoding.{decoderAfter, decodedSamples, decodeNumber}
+use Rattle.g722.specs.Encoding.{encoderAfter, encodedBytes, encodeNumber, encodeFromBytesAnswer, encodeFromBytesOut}
+use Rattle.g722.specs.Decoding.{decoderAfter, decodedSamples, decodeNumber, decodeToBytesAnswer, decodeToBytesOut}
+use Rattle.g722.proofs.AsBytes.{encoded-from-bytes, decoded-to-bytes}
 use Rattle.g722.proofs.Numbers.{encode-taken, decode-taken}
 use Rattle.g722.proofs.Sound.{encoder-after-in, decoder-after-in}
 use Rattle.mark.specs.Answer.{rateMost, writeAnswer, writeOut}
@@ -76,13 +75,20 @@ module _ {mark input out next : List ℕ} {r : EncoderAnswer} {k : ℕ} (call : 
     encode-passed : Taken (r .number) (not (eqb (length input % 2) 0)) (call .coded) (length next)
     encode-passed = taken _ _ (call .coded) (length next) (sym (call .number-is) ∙ is-done)
 
-    pub encode-asks : (length input % 2 ≡ 0) × (encodeNumber (r .session) (length input / 2) (length out) ≡ done)
+    encode-asks : (length input % 2 ≡ 0) × (encodeNumber (r .session) (length input / 2) (length out) ≡ done)
     encode-asks = (eqb-true _ _ (not-false _ (encode-passed .whole)), sym (call .coded-is) ∙ encode-passed .codes)
 
-    -- the new mark is written: 512 bytes hold it
-    module _ (words : allWords (samples input) ≡ true) (fits : r .session .rate ≤ rateMost) {after : Encoder}
-        (after-is : after ≡ encoderAfter (r .session) (samples input)) where
-      encoder-mark : encoderWriteAnswer after (length next) .number ≡ done
+    -- the samples are encoded, and the new mark is written: 512 bytes hold it
+    module _ (words : allWords (samples input) ≡ true) (fits : r .session .rate ≤ rateMost) {a : EncoderAnswer}
+        (answer : a ≡ encodeFromBytesAnswer (r .session) input (length out)) where
+      encoded : (encodeFromBytesAnswer (r .session) input (length out) .session ≡ encoderAfter (r .session) (samples input))
+          × (encodeFromBytesOut (r .session) input out ≡ sets out 0 (encodedBytes (r .session) (samples input)))
+      encoded = encoded-from-bytes (r .session) input (encode-asks .0) out (encode-asks .1)
+
+      after-is : a .session ≡ encoderAfter (r .session) (samples input)
+      after-is = ap (λ (x : EncoderAnswer). x .session) answer ∙ encoded .0
+
+      encoder-mark : encoderWriteAnswer (a .session) (length next) .number ≡ done
       unfolding encoderAfter
       encoder-mark =
           let s = r .session in
@@ -91,14 +97,14 @@ module _ {mark input out next : List ℕ} {r : EncoderAnswer} {k : ℕ} (call : 
           let inside = encoder-after-in s (samples input) words moved (e .inside) in
           rw after-is (encoder-writes (encoderAfter s (samples input)) fits inside (length next) (encode-passed .roomy))
 
-      pub encode-done : {left line : List ℕ} {w : EncoderAnswer} → left ≡ sets out 0 (encodedBytes (r .session) (samples input))
-          → w ≡ encoderWriteAnswer after (length next) → line ≡ encoderWriteOut after next
+      pub encode-done : {left line : List ℕ} {w : EncoderAnswer} → left ≡ encodeFromBytesOut (r .session) input out
+          → w ≡ encoderWriteAnswer (a .session) (length next) → line ≡ encoderWriteOut (a .session) next
           → EncodeCallAnswer mark input out next (w .number) left line
       unfolding encodeCallOut encodeCallMark writeAnswer writeOut
       encode-done left-is w-is line-is = (
-        ap (λ (a : EncoderAnswer). a .number) w-is ∙ encoder-mark ∙ sym is-done ∙ encode-number,
+        ap (λ (x : EncoderAnswer). x .number) w-is ∙ encoder-mark ∙ sym is-done ∙ encode-number,
         (
-          rw (← encode-number, is-done, ← call .restored) left-is,
+          rw (← encode-number, is-done, ← call .restored) (left-is ∙ encoded .1),
           rw (← encode-number, is-done, ← call .restored, ← after-is) (line-is ∙ rw encoder-mark),
         ),
       )
@@ -132,12 +138,19 @@ module _ {mark input out next : List ℕ} {r : DecoderAnswer} {k : ℕ} (call : 
     decode-passed : Taken (r .number) false (call .coded) (length next)
     decode-passed = taken _ _ (call .coded) (length next) (sym (call .number-is) ∙ is-done)
 
-    pub decode-asks : decodeNumber (r .session) (length input) (length out / 2) ≡ done
+    decode-asks : decodeNumber (r .session) (length input) (length out / 2) ≡ done
     decode-asks = sym (call .coded-is) ∙ decode-passed .codes
 
-    module _ (fits : r .session .rate ≤ rateMost) {after : Decoder}
-        (after-is : after ≡ decoderAfter (r .session) input) where
-      decoder-mark : decoderWriteAnswer after (length next) .number ≡ done
+    module _ (fits : r .session .rate ≤ rateMost) {a : DecoderAnswer}
+        (answer : a ≡ decodeToBytesAnswer (r .session) input (length out)) where
+      decoded : (decodeToBytesAnswer (r .session) input (length out) .session ≡ decoderAfter (r .session) input)
+          × (decodeToBytesOut (r .session) input out ≡ sets out 0 (bytes (decodedSamples (r .session) input)))
+      decoded = decoded-to-bytes (r .session) input out decode-asks
+
+      after-is : a .session ≡ decoderAfter (r .session) input
+      after-is = ap (λ (x : DecoderAnswer). x .session) answer ∙ decoded .0
+
+      decoder-mark : decoderWriteAnswer (a .session) (length next) .number ≡ done
       unfolding decoderAfter
       decoder-mark =
           let s = r .session in
@@ -145,14 +158,14 @@ module _ {mark input out next : List ℕ} {r : DecoderAnswer} {k : ℕ} (call : 
           let inside = decoder-after-in s input (e .not-past) (e .inside) in
           rw after-is (decoder-writes (decoderAfter s input) fits inside (length next) (decode-passed .roomy))
 
-      pub decode-done : {left line : List ℕ} {w : DecoderAnswer} → left ≡ sets out 0 (bytes (decodedSamples (r .session) input))
-          → w ≡ decoderWriteAnswer after (length next) → line ≡ decoderWriteOut after next
+      pub decode-done : {left line : List ℕ} {w : DecoderAnswer} → left ≡ decodeToBytesOut (r .session) input out
+          → w ≡ decoderWriteAnswer (a .session) (length next) → line ≡ decoderWriteOut (a .session) next
           → DecodeCallAnswer mark input out next (w .number) left line
       unfolding decodeCallOut decodeCallMark writeAnswer writeOut
       decode-done left-is w-is line-is = (
-        ap (λ (a : DecoderAnswer). a .number) w-is ∙ decoder-mark ∙ sym is-done ∙ decode-number,
+        ap (λ (x : DecoderAnswer). x .number) w-is ∙ decoder-mark ∙ sym is-done ∙ decode-number,
         (
-          rw (← decode-number, is-done, ← call .restored) left-is,
+          rw (← decode-number, is-done, ← call .restored) (left-is ∙ decoded .1),
           rw (← decode-number, is-done, ← call .restored, ← after-is) (line-is ∙ rw decoder-mark),
         ),
       )

@@ -13,8 +13,9 @@ use Rattle.band.specs.Quantise.{codeAt, first, magnitude, placeHigh}
 use Rattle.step.specs.Step.{decodeStep, encodeStep}
 use Rattle.pcmu.specs.Mulaw.{muByte}
 use Rattle.pcma.specs.Alaw.{aByte, aCode, aSize, aValue, ends, masked, signed}
-use Rattle.g722.specs.Rates.{decodeRoom, decoderMoves, encodeRoom, encoderMoves, oddAt}
-use Rattle.g722.specs.Runs.{bytesOfPairs, doubled, filtersAfterPairs, keptAt, keptOf, paired, pairsAt, pairsOfBytes}
+use Rattle.runs.specs.Rates.{decodeRoom, encodeRoom, oddAt}
+use Rattle.g722.specs.Session.{decoderMoves, encoderMoves}
+use Rattle.runs.specs.Runs.{bytesOfPairs, doubled, filtersAfterPairs, keptAt, keptOf, paired, pairsAt, pairsOfBytes}
 use Rattle.g722.specs.Session.{beginNumber, freshAt, sessionInBounds, startBegun}
 use Rattle.g722.specs.Encoding.{encodeNumber, encodeOut, encodedBytes, encoderAfter, encoderBegun}
 use Rattle.g722.specs.Decoding.{decodeNumber, decodeOut, decodedSamples, decoderBegun}

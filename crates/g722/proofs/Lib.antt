@@ -3,6 +3,7 @@ pub mod MovedOn
 pub mod Cut
 pub mod Written
 pub mod Sound
+pub mod AsBytes
 pub mod Empty
 pub mod Agree
 pub mod Determined

@@ -8,7 +8,7 @@ use Rattle.band.specs.Adapt.{lowUpdate, highUpdate}
 use Rattle.step.specs.Step.{decodeStep}
 use Rattle.g722.specs.declared.Decoder.{Decoder}
 use Rattle.g722.specs.Session.{startBegun, freshAt}
-use Rattle.g722.specs.Runs.{keptOf, keptAt, pairsOfBytes}
+use Rattle.runs.specs.Runs.{keptOf, keptAt, pairsOfBytes}
 use Rattle.g722.specs.Decoding.{decoderBegun, decodedSamples}
 
 abbrev pub begun : Decoder

@@ -7,12 +7,13 @@ use mathlib.Core.List.{List, []}
 use lib.ListN.{length}
 use lib.Dec.{ltb}
 use Rattle.g722.specs.declared.Decoder.{Decoder}
-use Rattle.g722.specs.Rates.{decodeRoom, decoderMoves}
+use Rattle.runs.specs.Rates.{decodeRoom}
+use Rattle.g722.specs.Session.{decoderMoves}
 use Rattle.g722.specs.Session.{positionMost, freshAt}
-use Rattle.g722.specs.Runs.{keptAt, filtersAfterBytes, pairsOfBytes}
+use Rattle.runs.specs.Runs.{keptAt, filtersAfterBytes, pairsOfBytes}
 use Rattle.g722.specs.Decoding.{decoderAt, decoderReply, decoderBegun, decoderInBounds, decodeNumber, decodeAnswer}
 use Rattle.g722.specs.Decoding.{decoderAfter, decodedSamples}
-use Rattle.g722.proofs.RateLaws.{decoder-stays}
+use Rattle.g722.proofs.MovedOn.{decoder-stays}
 use Rattle.g722.proofs.Cut.{decoder-cut, decoded-cut, decoded-length}
 use Rattle.g722.proofs.Written.{decode-written}
 use Rattle.g722.proofs.Sound.{decoder-begun-in, decoder-answer-in}

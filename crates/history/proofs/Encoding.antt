@@ -9,12 +9,14 @@ use lib.ListN.{length, length-append}
 use lib.Dec.{eqb, ltb}
 use borrow.Author.Tests.{eq-eqb, eqb-true, not-false}
 use Rattle.g722.specs.declared.Encoder.{Encoder}
-use Rattle.g722.specs.Rates.{resamples, encodeRoom, encoderMoves, oddAt}
+use Rattle.runs.specs.Rates.{resamples, encodeRoom, oddAt}
+use Rattle.g722.specs.Session.{encoderMoves}
 use Rattle.g722.specs.Session.{positionMost, freshAt}
-use Rattle.g722.specs.Runs.{doubled, paired, pairsAt, filtersAfterPairs, bytesOfPairs}
+use Rattle.runs.specs.Runs.{doubled, paired, pairsAt, filtersAfterPairs, bytesOfPairs}
 use Rattle.g722.specs.Encoding.{encoderAt, encoderReply, encoderBegun, encoderInBounds, encodeNumber, encodeAnswer}
 use Rattle.g722.specs.Encoding.{encoderAfter, encodedBytes}
-use Rattle.g722.proofs.RateLaws.{nothing, encoder-stays, not-odd}
+use Rattle.runs.proofs.RateLaws.{nothing, not-odd}
+use Rattle.g722.proofs.MovedOn.{encoder-stays}
 use Rattle.g722.proofs.Numbers.{encode-taken}
 use Rattle.g722.proofs.Cut.{encoder-cut, encoded-cut, encoded-length}
 use Rattle.g722.proofs.Written.{encode-written}

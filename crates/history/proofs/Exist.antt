@@ -6,7 +6,8 @@ use mathlib.Core.List.{List, [], _∷_, _++_, flatten, append-assoc}
 use lib.IntN.{ℤ, pos}
 use lib.ListN.{length, replicate, length-replicate}
 use Rattle.g722.specs.declared.Decoder.{Decoder}
-use Rattle.g722.specs.Rates.{decodeRoom, decoderMoves}
+use Rattle.runs.specs.Rates.{decodeRoom}
+use Rattle.g722.specs.Session.{decoderMoves}
 use Rattle.g722.specs.Session.{positionMost}
 use Rattle.g722.specs.Decoding.{decoderBegun, decodedSamples}
 use Rattle.g722.proofs.Cut.{decode-moves-cut}

@@ -10,7 +10,8 @@ use borrow.Author.Tests.{le-ltb, lt-ltb}
 use Rattle.answers.specs.Numbers.{done}
 use Rattle.g722.specs.declared.Encoder.{Encoder}
 use Rattle.g722.specs.declared.Decoder.{Decoder}
-use Rattle.g722.specs.Rates.{encodeRoom, decodeRoom, encoderMoves, decoderMoves, oddAt}
+use Rattle.runs.specs.Rates.{encodeRoom, decodeRoom, oddAt}
+use Rattle.g722.specs.Session.{encoderMoves, decoderMoves}
 use Rattle.g722.specs.Session.{positionMost, beginNumber, startBegun}
 use Rattle.g722.specs.Encoding.{encoderBegun, encoderAfter, encodeAnswer}
 use Rattle.g722.specs.Decoding.{decoderBegun, decoderAfter, decodeAnswer}

@@ -6,7 +6,8 @@ use mathlib.Core.List.{List, [], _∷_, _++_}
 use lib.IntN.{ℤ, pos, negsuc}
 use lib.ListN.{drop, replicate}
 use Rattle.g722.specs.declared.Decoder.{Decoder}
-use Rattle.g722.specs.Rates.{decodeRoom, decoderMoves}
+use Rattle.runs.specs.Rates.{decodeRoom}
+use Rattle.g722.specs.Session.{decoderMoves}
 use Rattle.g722.specs.Session.{beginNumber}
 use Rattle.g722.specs.Decoding.{decoderBegun}
 use Rattle.life.specs.Life.{fresh, givenBy, markBy, coded, code-refused, wrote, Life, begun, begin-refused, called, restored}

@@ -10,7 +10,8 @@ use Rattle.answers.specs.Numbers.{done, oddCount, noRoom, positionPastEnd}
 use Rattle.band.specs.Bounds.{allWords}
 use Rattle.g722.specs.declared.Encoder.{Encoder}
 use Rattle.g722.specs.declared.EncoderAnswer.{EncoderAnswer}
-use Rattle.g722.specs.Rates.{encodeRoom, encoderMoves, oddAt}
+use Rattle.runs.specs.Rates.{encodeRoom, oddAt}
+use Rattle.g722.specs.Session.{encoderMoves}
 use Rattle.g722.specs.Session.{positionMost}
 use Rattle.g722.specs.Encoding.{encoderBegun, encoderInBounds, encodeAnswer, encodeOut, encoderAfter, encodedBytes}
 use Rattle.mark.specs.Answer.{rateMost}

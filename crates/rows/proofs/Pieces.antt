@@ -12,7 +12,8 @@ use borrow.Author.Tests.{eqb-true, ne-eqb}
 use Rattle.answers.specs.Numbers.{done}
 use Rattle.g722.specs.declared.Decoder.{Decoder}
 use Rattle.g722.specs.declared.DecoderAnswer.{DecoderAnswer}
-use Rattle.g722.specs.Rates.{decodeRoom, decoderMoves}
+use Rattle.runs.specs.Rates.{decodeRoom}
+use Rattle.g722.specs.Session.{decoderMoves}
 use Rattle.g722.specs.Decoding.{decoderReply, decoderAfter, decodedSamples, decodeNumber, decodeAnswer, decodeOut}
 use Rattle.g722.proofs.Numbers.{decode-taken, decode-done}
 use Rattle.g722.proofs.Cut.{decoded-length}

@@ -6,8 +6,9 @@ use native.Mathlib.Omega.{arith}
 use lib.ListN.{length}
 use Rattle.answers.specs.Numbers.{done}
 use Rattle.g722.specs.declared.Decoder.{Decoder}
-use Rattle.g722.specs.Rates.{decodeRoom, decoderMoves}
-use Rattle.g722.specs.Runs.{filtersAfterBytes}
+use Rattle.runs.specs.Rates.{decodeRoom}
+use Rattle.g722.specs.Session.{decoderMoves}
+use Rattle.runs.specs.Runs.{filtersAfterBytes}
 use Rattle.g722.specs.Decoding.{decoderBegun, decoderAfter, decodeNumber}
 use Rattle.g722.proofs.Numbers.{decode-taken, taken-decodes}
 use Rattle.g722.proofs.Sound.{decoder-begun-in, decoder-after-in}

@@ -8,8 +8,8 @@ use lib.ListN.{length}
 use Rattle.text.specs.Number.{decimal, digits, digitsIn}
 use Rattle.text.specs.Fields.{parted}
 use Rattle.g722.specs.declared.Decoder.{Decoder}
-use Rattle.g722.specs.Rates.{decoderMoves}
-use Rattle.g722.specs.Runs.{keptAt, pairsOfBytes}
+use Rattle.g722.specs.Session.{decoderMoves}
+use Rattle.runs.specs.Runs.{keptAt, pairsOfBytes}
 use Rattle.g722.specs.Decoding.{decoderBegun, decoderAfter, decodedSamples}
 use Rattle.g722.proofs.Cut.{decoded-cut, decoded-length}
 use Rattle.rows.specs.Text.{headerText, rowText, rowsText, endText, listingText}

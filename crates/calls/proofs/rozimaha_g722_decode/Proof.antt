@@ -1,12 +1,8 @@
 -- `calls::rozimaha_g722_decode` meets its contract.
-use mathlib.Core.Path.{_≡_}
-use Prim.Native.Nat.{_/_, _≤_}
-use lib.ListN.{length}
+use Prim.Native.Nat.{_≤_}
 use borrow.Author.Needs.{needs}
-use Rattle.answers.specs.Numbers.{done}
-use Rattle.g722.specs.Decoding.{decodeNumber}
 use Rattle.mark.specs.Answer.{rateMost}
-use Rattle.calls.proofs.Coded.{DecodeCall, decode-refused, decode-asks, decode-done}
+use Rattle.calls.proofs.Coded.{DecodeCall, decode-refused, decode-done}
 use Rattle.calls.proofs.rozimaha_g722_decode.Statement.{statement}
 use Rattle.calls.proofs.rozimaha_g722_decode.Tie as tie
 
@@ -24,19 +20,13 @@ call c = record {
 rate-fits : (c : tie.After-decoder-of) → c .decoder-of .result .session .rate ≤ rateMost
 rate-fits c = search needs
 
-asks : (c : tie.Else1) → let a = c .before .before .before .before .before .before .before .before .before .args in
-    let s = c .before .before .before .before .decoder-of .result .session in
-    decodeNumber s (length (a .input .now)) (length (a .out .now) / 2) ≡ done
-asks c = decode-asks (call (c .before)) (c .if1 .left)
-
 returns-2 : tie.Need-returns-2
 returns-2 c =
     let w = c .before .before .before .write-decoder .ensures in
-    let d = c .before .before .before .before .before .before .before in
+    let d = c .before .before .before .before .before .before .before .before in
     let e = d .before .before in
-    let a = e .before .before .before .before .before .before .before .before .before .args in
-    let fits = rate-fits (e .before .before .before .before) in
-    decode-done (call (e .before)) (e .if1 .left) fits (d .decode .ensures .0) (d .decode .ensures .1) (w .0) (w .1)
+    decode-done (call (e .before)) (e .if1 .left) (rate-fits (e .before .before .before .before)) (d .decode-to-bytes .ensures .0)
+    (d .decode-to-bytes .ensures .1) (w .0) (w .1)
 
 pub rozimaha-g722-decode-spec : {M : Type 1} → statement M
 rozimaha-g722-decode-spec =
@@ -47,7 +37,7 @@ rozimaha-g722-decode-spec =
     (λ c κs. tt)
     (λ c. search needs)
     (λ c. decode-refused (call (c .before)) (c .if1 .taken))
-    (λ c κs. asks (c .before))
+    (λ c κs. tt)
     (λ c κs. tt)
     (λ c. search needs)
     (λ c. search needs)

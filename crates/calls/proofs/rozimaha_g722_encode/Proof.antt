@@ -1,13 +1,9 @@
 -- `calls::rozimaha_g722_encode` meets its contract.
-use mathlib.Core.Path.{_≡_}
-use Prim.Native.Nat.{_/_, _%_, _≤_}
-use lib.ListN.{length}
+use Prim.Native.Nat.{_≤_}
 use borrow.Author.Needs.{needs}
-use Rattle.answers.specs.Numbers.{done}
-use Rattle.g722.specs.Encoding.{encodeNumber}
 use Rattle.mark.specs.Answer.{rateMost}
 use Rattle.pieces.proofs.Lists.{samples-words}
-use Rattle.calls.proofs.Coded.{EncodeCall, encode-refused, encode-asks, encode-done}
+use Rattle.calls.proofs.Coded.{EncodeCall, encode-refused, encode-done}
 use Rattle.calls.proofs.rozimaha_g722_encode.Statement.{statement}
 use Rattle.calls.proofs.rozimaha_g722_encode.Tie as tie
 
@@ -25,21 +21,14 @@ call c = record {
 rate-fits : (c : tie.After-encoder-of) → c .encoder-of .result .session .rate ≤ rateMost
 rate-fits c = search needs
 
-asks : (c : tie.Else1) → let a = c .before .before .before .before .before .before .before .before .before .args in
-    let s = c .before .before .before .before .encoder-of .result .session in
-    (length (a .input .now) % 2 ≡ 0) × (encodeNumber s (length (a .input .now) / 2) (length (a .out .now)) ≡ done)
-asks c = encode-asks (call (c .before)) (c .if1 .left)
-
 returns-2 : tie.Need-returns-2
 returns-2 c =
     let w = c .before .before .before .write-encoder .ensures in
-    let d = c .before .before .before .before .before .before .before in
+    let d = c .before .before .before .before .before .before .before .before in
     let e = d .before .before in
-    let a = e .before .before .before .before .before .before .before .before .before .args in
-    let known = e .before .before .before .before .before .before .before .shared-slice-known2 .given in
-    let words = samples-words (a .input .now) (λ i. known i .fits) in
-    let fits = rate-fits (e .before .before .before .before) in
-    encode-done (call (e .before)) (e .if1 .left) words fits (d .encode .ensures .0) (d .encode .ensures .1) (w .0) (w .1)
+    let r = e .before .before .before .before in
+    let words = samples-words (r .before .before .before .before .before .args .input .now) (λ i. r .before .before .before .shared-slice-known2 .given i .fits) in
+    encode-done (call (e .before)) (e .if1 .left) words (rate-fits r) (d .encode-from-bytes .ensures .0) (d .encode-from-bytes .ensures .1) (w .0) (w .1)
 
 pub rozimaha-g722-encode-spec : {M : Type 1} → statement M
 rozimaha-g722-encode-spec =
@@ -50,7 +39,7 @@ rozimaha-g722-encode-spec =
     (λ c κs. tt)
     (λ c. search needs)
     (λ c. encode-refused (call (c .before)) (c .if1 .taken))
-    (λ c κs. asks (c .before))
+    (λ c κs. tt)
     (λ c κs. tt)
     (λ c. search needs)
     (λ c. search needs)
