@@ -85,8 +85,8 @@ module _ {mark input out next : List ℕ} {r : EncoderAnswer} {k : ℕ} (call : 
           × (encodeFromBytesOut (r .session) input out ≡ sets out 0 (encodedBytes (r .session) (samples input)))
       encoded = encoded-from-bytes (r .session) input (encode-asks .0) out (encode-asks .1)
 
-      after-is : a .session ≡ encoderAfter (r .session) (samples input)
-      after-is = ap (λ (x : EncoderAnswer). x .session) answer ∙ encoded .0
+      encoder-after-is : a .session ≡ encoderAfter (r .session) (samples input)
+      encoder-after-is = ap (λ (x : EncoderAnswer). x .session) answer ∙ encoded .0
 
       encoder-mark : encoderWriteAnswer (a .session) (length next) .number ≡ done
       unfolding encoderAfter
@@ -95,7 +95,7 @@ module _ {mark input out next : List ℕ} {r : EncoderAnswer} {k : ℕ} (call : 
           let e = encode-taken s (length input / 2) (length out) (encode-asks .1) in
           let moved = rw (← length-samples input) at (e .not-past) in
           let inside = encoder-after-in s (samples input) words moved (e .inside) in
-          rw after-is (encoder-writes (encoderAfter s (samples input)) fits inside (length next) (encode-passed .roomy))
+          rw encoder-after-is (encoder-writes (encoderAfter s (samples input)) fits inside (length next) (encode-passed .roomy))
 
       pub encode-done : {left line : List ℕ} {w : EncoderAnswer} → left ≡ encodeFromBytesOut (r .session) input out
           → w ≡ encoderWriteAnswer (a .session) (length next) → line ≡ encoderWriteOut (a .session) next
@@ -105,7 +105,7 @@ module _ {mark input out next : List ℕ} {r : EncoderAnswer} {k : ℕ} (call : 
         ap (λ (x : EncoderAnswer). x .number) w-is ∙ encoder-mark ∙ sym is-done ∙ encode-number,
         (
           rw (← encode-number, is-done, ← call .restored) (left-is ∙ encoded .1),
-          rw (← encode-number, is-done, ← call .restored, ← after-is) (line-is ∙ rw encoder-mark),
+          rw (← encode-number, is-done, ← call .restored, ← encoder-after-is) (line-is ∙ rw encoder-mark),
         ),
       )
 
@@ -147,8 +147,8 @@ module _ {mark input out next : List ℕ} {r : DecoderAnswer} {k : ℕ} (call : 
           × (decodeToBytesOut (r .session) input out ≡ sets out 0 (bytes (decodedSamples (r .session) input)))
       decoded = decoded-to-bytes (r .session) input out decode-asks
 
-      after-is : a .session ≡ decoderAfter (r .session) input
-      after-is = ap (λ (x : DecoderAnswer). x .session) answer ∙ decoded .0
+      decoder-after-is : a .session ≡ decoderAfter (r .session) input
+      decoder-after-is = ap (λ (x : DecoderAnswer). x .session) answer ∙ decoded .0
 
       decoder-mark : decoderWriteAnswer (a .session) (length next) .number ≡ done
       unfolding decoderAfter
@@ -156,7 +156,7 @@ module _ {mark input out next : List ℕ} {r : DecoderAnswer} {k : ℕ} (call : 
           let s = r .session in
           let e = decode-taken s (length input) (length out / 2) decode-asks in
           let inside = decoder-after-in s input (e .not-past) (e .inside) in
-          rw after-is (decoder-writes (decoderAfter s input) fits inside (length next) (decode-passed .roomy))
+          rw decoder-after-is (decoder-writes (decoderAfter s input) fits inside (length next) (decode-passed .roomy))
 
       pub decode-done : {left line : List ℕ} {w : DecoderAnswer} → left ≡ decodeToBytesOut (r .session) input out
           → w ≡ decoderWriteAnswer (a .session) (length next) → line ≡ decoderWriteOut (a .session) next
@@ -166,6 +166,6 @@ module _ {mark input out next : List ℕ} {r : DecoderAnswer} {k : ℕ} (call : 
         ap (λ (x : DecoderAnswer). x .number) w-is ∙ decoder-mark ∙ sym is-done ∙ decode-number,
         (
           rw (← decode-number, is-done, ← call .restored) (left-is ∙ decoded .1),
-          rw (← decode-number, is-done, ← call .restored, ← after-is) (line-is ∙ rw decoder-mark),
+          rw (← decode-number, is-done, ← call .restored, ← decoder-after-is) (line-is ∙ rw decoder-mark),
         ),
       )

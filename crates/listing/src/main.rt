@@ -53,7 +53,7 @@ fn list_bytes(bytes: &[u8], text: &mut [u8], before: Decoder) -> Listed
     let mut at = 0;
     while at < bytes.len() {
         let end = piece_end(at, bytes.len());
-        let answer = rows::list(&bytes[at..end], text, session);
+        let answer = rows::list(session.position as u64, &bytes[at..end], text, session);
         session = answer.session;
         let n = answer.count;
         if !put(&text[..n]) {
@@ -138,6 +138,6 @@ fn main() {
     }
     let last = listed.session;
     let mut row = [0u8; rows::END_MOST];
-    let n = rows::write_end(last.position, &mut row);
+    let n = rows::write_end(last.position as u64, &mut row);
     put(&row[..n]);
 }

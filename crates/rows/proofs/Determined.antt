@@ -14,7 +14,7 @@ use Rattle.rows.proofs.write_end.Reads as end-r
 pub header : Determined 0 header-k.ps header-k.r header-r.Post (λ κs e. tt {0})
 header κs a z z′ e e′ p q = (one p q, refl)
 
-pub list : Determined 2 list-k.ps list-k.r list-r.Post (λ κs e. now (e .1 .0))
+pub list : Determined 2 list-k.ps list-k.r list-r.Post (λ κs e. now (e .1 .1 .0))
 list κs a z z′ e e′ p q = (one (p .0) (q .0), one (p .1 .0) (q .1 .0))
 
 pub fitting : Determined 0 fitting-k.ps fitting-k.r fitting-r.Post (λ κs e. tt {0})

@@ -2,7 +2,7 @@
 use mathlib.Core.Path.{_≡_, refl, sym, ap, _∙_}
 use mathlib.Core.Bool.{Bool, true, false, cond}
 use mathlib.Core.List.{List, _++_}
-use Prim.Native.Nat.{ℕ, _+_, _*_, _^_, _≤_}
+use Prim.Native.Nat.{ℕ, _+_, _*_, _≤_}
 use native.Mathlib.Omega.{arith}
 use lib.Dec.{eqb}
 use lib.IntN.{ℤ}
@@ -13,7 +13,6 @@ use Rattle.answers.specs.Numbers.{done}
 use Rattle.g722.specs.declared.Decoder.{Decoder}
 use Rattle.g722.specs.declared.DecoderAnswer.{DecoderAnswer}
 use Rattle.runs.specs.Rates.{decodeRoom}
-use Rattle.g722.specs.Session.{decoderMoves}
 use Rattle.g722.specs.Decoding.{decoderReply, decoderAfter, decodedSamples, decodeNumber, decodeAnswer, decodeOut}
 use Rattle.g722.proofs.Numbers.{decode-taken, decode-done}
 use Rattle.g722.proofs.Cut.{decoded-length}
@@ -32,14 +31,14 @@ number-by : (k : ℕ) (t : Bool) (full other : DecoderAnswer) → eqb k done ≡
 number-by k true full other e f o = f ∙ sym (eqb-true k done e)
 number-by k false full other e f o = o
 
-module _ (s : Decoder) (bs : List ℕ) where
+module _ (first : ℕ) (s : Decoder) (bs : List ℕ) where
   answer-number : (room : ℕ) → decodeAnswer s bs room .number ≡ decodeNumber s (length bs) room
   unfolding decodeAnswer
   answer-number room = number-by (decodeNumber s (length bs) room) _ _ _ refl refl refl
 
   pub list-refused : (out : List ℕ) (room : ℕ) (r : DecoderAnswer)
       → room ≡ rowsFor (length out) → r ≡ decodeAnswer s bs room → (r .number ≡ done → ⊥)
-      → (r ≡ listAnswer s bs (length out)) × ((out ≡ listOut s bs out) × (r .count ≤ length out))
+      → (r ≡ listAnswer first s bs (length out)) × ((out ≡ listOut first s bs out) × (r .count ≤ length out))
   unfolding decodeAnswer listAnswer listOut
   list-refused out room r k e z =
       let number = ap (λ (x : DecoderAnswer). x .number) e ∙ answer-number room in
@@ -53,12 +52,11 @@ module _ (s : Decoder) (bs : List ℕ) where
     pub session : r .session ≡ decoderAfter s bs
     pub inside : r .count ≤ length all
     pub samples : take (r .count) all ≡ decodedSamples s bs
-    pub indices : s .position + length (decodedSamples s bs) ≤ 10 ^ 10
+    pub few : length (decodedSamples s bs) ≤ 2048
     pub roomy : rowMost * length (decodedSamples s bs) ≤ length out
 
   pub decoded : (out : List ℕ) (zs q : List ℤ) (k : ℕ) (r : DecoderAnswer) → 2048 ≡ length zs → k ≡ rowsFor (length out)
       → r ≡ decodeAnswer s bs (length (take k zs)) → q ≡ decodeOut s bs (take k zs) → r .number ≡ done → Decoded out (q ++ drop k zs) r
-  unfolding decoderMoves
   decoded out zs q k r l e a o d =
       let ds = decodedSamples s bs in
       let room = length (take k zs) in
@@ -74,16 +72,16 @@ module _ (s : Decoder) (bs : List ℕ) where
         session = ap (λ (x : DecoderAnswer). x .session) reply;
         inside = omega (arith, count, few, length-append q (drop k zs), ap length o, ap length (w .1), length-sets (take k zs) 0 ds);
         samples = rw (count, o, sym (w .1)) (stored-front (take k zs) (drop k zs) ds few);
-        indices = omega (arith, t .not-past, decoded-length s bs);
+        few = omega (arith, few, long, e);
         roomy = omega (arith, few, long, e);
       }
 
   pub list-done : (out q : List ℕ) (n : ℕ)
-      → listNumber s (length bs) (length out) ≡ done → n ≡ length (rowsOf s bs) → q ≡ sets out 0 (rowsOf s bs)
-      → (decoderReply done n (decoderAfter s bs) ≡ listAnswer s bs (length out)) × (q ≡ listOut s bs out)
+      → listNumber s (length bs) (length out) ≡ done → n ≡ length (rowsOf first s bs) → q ≡ sets out 0 (rowsOf first s bs)
+      → (decoderReply done n (decoderAfter s bs) ≡ listAnswer first s bs (length out)) × (q ≡ listOut first s bs out)
   unfolding listAnswer listOut
   list-done out q n e c w = (rw (e, c), rw e w)
 
-  pub listed-session : (room : ℕ) → listNumber s (length bs) room ≡ done → listAnswer s bs room .session ≡ decoderAfter s bs
+  pub listed-session : (room : ℕ) → listNumber s (length bs) room ≡ done → listAnswer first s bs room .session ≡ decoderAfter s bs
   unfolding listAnswer
   listed-session room e = rw e

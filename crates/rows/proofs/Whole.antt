@@ -1,5 +1,5 @@
 -- A recording that is listed piece by piece is listed whole; and an example.
-use mathlib.Core.Path.{_≡_, refl, ap, ap₂, _∙_}
+use mathlib.Core.Path.{_≡_, refl, ap, _∙_}
 use mathlib.Core.List.{List, [], _∷_, _++_, flatten}
 use Prim.Native.Nat.{ℕ, _+_}
 use native.Mathlib.Omega.{arith}
@@ -18,36 +18,34 @@ use Rattle.rows.proofs.Texts.{rows-append}
 
 -- ---- pieces
 
-rows-none : (s : Decoder) → rowsOf s [] ≡ []
+rows-none : (first : ℕ) (s : Decoder) → rowsOf first s [] ≡ []
 unfolding rowsOf rowsText decodedSamples pairsOfBytes keptAt
-rows-none s = refl
+rows-none first s = refl
 
--- the position after some bytes, in samples
-after-position : (s : Decoder) (a : List ℕ) → s .position + length (decodedSamples s a) ≡ decoderAfter s a .position
-unfolding decoderAfter decoderMoves
-after-position s a = ap (λ (n : ℕ). s .position + n) (decoded-length s a)
-
-rows-cut : (s : Decoder) (a b : List ℕ) → rowsOf s (a ++ b) ≡ rowsOf s a ++ rowsOf (decoderAfter s a) b
+rows-cut : (first : ℕ) (s : Decoder) (a b : List ℕ)
+    → rowsOf first s (a ++ b) ≡ rowsOf first s a ++ rowsOf (first + length (decodedSamples s a)) (decoderAfter s a) b
 unfolding rowsOf
-rows-cut s a b =
-    let xs = decodedSamples s a in
-    let ys = decodedSamples (decoderAfter s a) b in
-    ap (rowsText (s .position)) (decoded-cut s a b)
-    ∙ rows-append (s .position) xs ys
-    ∙ ap (λ (n : ℕ). rowsText (s .position) xs ++ rowsText n ys) (after-position s a)
+rows-cut first s a b = ap (rowsText first) (decoded-cut s a b) ∙ rows-append first (decodedSamples s a) (decodedSamples (decoderAfter s a) b)
 
-by-pieces : (s : Decoder) (ps : List (List ℕ)) → rowsOf s (flatten ps) ≡ rowsOfPieces s ps
+by-pieces : (first : ℕ) (s : Decoder) (ps : List (List ℕ)) → rowsOf first s (flatten ps) ≡ rowsOfPieces first s ps
 unfolding rowsOfPieces flatten
-by-pieces s [] = rows-none s
-by-pieces s (p ∷ ps) = rows-cut s p (flatten ps) ∙ ap (λ (l : List ℕ). rowsOf s p ++ l) (by-pieces (decoderAfter s p) ps)
+by-pieces first s [] = rows-none first s
+by-pieces first s (p ∷ ps) =
+    rows-cut first s p (flatten ps)
+    ∙ ap (λ (l : List ℕ). rowsOf first s p ++ l) (by-pieces (first + length (decodedSamples s p)) (decoderAfter s p) ps)
 
--- the header, the rows of each piece, and the end row of the last position
-pub listed : (ps : List (List ℕ))
-    → listing (flatten ps) ≡ headerText ++ (rowsOfPieces zeroStart ps ++ endText (decoderAfter zeroStart (flatten ps) .position))
-unfolding listingText rowsOf decoderBegun
+-- the header, the rows of each piece, and the end row
+pub listed : (ps : List (List ℕ)) → listing (flatten ps)
+    ≡ headerText ++ (rowsOfPieces 0 zeroStart ps ++ endText (length (decodedSamples zeroStart (flatten ps))))
+unfolding listingText rowsOf
 listed ps =
-    ap₂ (λ (rows : List ℕ) (n : ℕ). headerText ++ (rows ++ endText n)) (by-pieces zeroStart ps)
-    (omega (arith, after-position zeroStart (flatten ps)))
+    let total = length (decodedSamples zeroStart (flatten ps)) in
+    ap (λ (rows : List ℕ). headerText ++ (rows ++ endText total)) (by-pieces 0 zeroStart ps)
+
+-- at 16000 the samples so far are the position, which the program counts its indices by
+pub position-counts : (bs : List ℕ) → length (decodedSamples zeroStart bs) ≡ decoderAfter zeroStart bs .position
+unfolding decoderAfter decoderMoves decoderBegun
+position-counts bs = omega (arith, decoded-length zeroStart bs)
 
 -- ---- an example
 

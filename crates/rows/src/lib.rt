@@ -77,11 +77,12 @@ fn sample_room() -> [i16; SAMPLES_MOST]
     [0; SAMPLES_MOST]
 }
 
-// Decodes the input and writes the rows of its samples; the first index is the session's position. Refuses as `decode` does,
-// where the room is counted in rows. The count is that of the bytes written.
-pub fn list(input: &[u8], out: &mut [u8], session: Decoder) -> DecoderAnswer
-    ensures answer { λ r. ⌜ r ≡ listAnswer session (now (input .entry)) (length (now (out .entry))) ⌝ }
-    ensures written { λ _. ⌜ now (out .exit) ≡ listOut session (now (input .entry)) (now (out .entry)) ⌝ }
+// Decodes the input and writes the rows of its samples, whose indices begin with `first` and have at most ten digits. Refuses as
+// `decode` does, where the room is counted in rows. The count is that of the bytes written.
+pub fn list(first: u64, input: &[u8], out: &mut [u8], session: Decoder) -> DecoderAnswer
+    requires { ⌜ first + 2048 ≤ 10 ^ 10 ⌝ }
+    ensures answer { λ r. ⌜ r ≡ listAnswer first session (now (input .entry)) (length (now (out .entry))) ⌝ }
+    ensures written { λ _. ⌜ now (out .exit) ≡ listOut first session (now (input .entry)) (now (out .entry)) ⌝ }
     ensures within { λ r. ⌜ r .count ≤ length (now (out .exit)) ⌝ }
 {
     let mut samples = sample_room();
@@ -94,7 +95,7 @@ pub fn list(input: &[u8], out: &mut [u8], session: Decoder) -> DecoderAnswer
     let n = answer.count;
     DecoderAnswer {
         number: answers::DONE,
-        count: write_rows(session.position as u64, &samples[..n], out),
+        count: write_rows(first, &samples[..n], out),
         session: after,
     }
 }
@@ -107,7 +108,8 @@ pub fn fitting(position: u32, count: usize) -> usize
 }
 
 // Writes the last row, and answers how many bytes it takes.
-pub fn write_end(total: u32, out: &mut [u8; END_MOST]) -> usize
+pub fn write_end(total: u64, out: &mut [u8; END_MOST]) -> usize
+    requires { ⌜ total < 10 ^ 10 ⌝ }
     ensures answer { λ r. ⌜ r ≡ length (endText total) ⌝ }
     ensures written { λ _. ⌜ now (out .exit) ≡ sets (now (out .entry)) 0 (endText total) ⌝ }
     ensures within { λ r. ⌜ r ≤ length (now (out .exit)) ⌝ }

@@ -42,13 +42,13 @@ module _ {before : Decoder} {bytes o q : List ℕ} {s : Decoder} {at : ℕ} (w :
         let k : at + (e - at) ≡ e = omega arith in
         sym (take-append-drop (e - at) (drop at bytes)) ∙ ap (λ (l : List ℕ). piece ++ l) (drop-drop (e - at) at bytes ∙ rw k)
 
-    more : e ≤ at + 1024 → 36864 ≤ length q → (r : DecoderAnswer) → r ≡ listAnswer s piece (length q) → (z : List ℕ) → length z ≡ length q
+    more : e ≤ at + 1024 → 36864 ≤ length q → (first : ℕ) (r : DecoderAnswer) → r ≡ listAnswer first s piece (length q) → (z : List ℕ) → length z ≡ length q
         → Running before bytes o z (r .session) e
-    more small roomy r a z l =
+    more small roomy first r a z l =
         let n = piece-length in
         let here : Ready s (length piece + (length bytes - e)) = ready-fewer s (length bytes - at) _ (omega arith) (w .ready) in
         let done = ready-lists s (length piece) (length q) (ready-fewer s _ _ (omega arith) here) (omega arith) roomy in
-        let next : r .session ≡ decoderAfter s piece = ap (λ (x : DecoderAnswer). x .session) a ∙ listed-session s piece (length q) done in
+        let next : r .session ≡ decoderAfter s piece = ap (λ (x : DecoderAnswer). x .session) a ∙ listed-session first s piece (length q) done in
         record {
           within = to;
           same = l ∙ w .same;
@@ -75,6 +75,9 @@ loop-holds c = let a = c .before .before .args in starts (a .before) (now (a .by
 piece-end-requires : tie.Need-piece-end-requires Inv-loop μ-loop
 piece-end-requires c κs = search needs
 
+cast-list : tie.Need-cast-list Inv-loop μ-loop
+cast-list c = search needs
+
 sub-list : tie.Need-sub-list Inv-loop μ-loop
 sub-list c = search needs
 
@@ -89,13 +92,13 @@ list-requires c κs = search needs
 
 -- after a piece
 listed : (c : tie.After-list Inv-loop μ-loop)
-    → let p = c .before .before .before in let a = p .before .before .before .before .before .args in
-    Running (a .before) (now (a .bytes)) (now (a .text)) (c .list .last .1 .0) (c .list .result .session) (p .piece-end .result)
+    → let p = c .before .before .before .before in let a = p .before .before .before .before .before .args in
+    Running (a .before) (now (a .bytes)) (now (a .text)) (c .list .last .1 .1 .0) (c .list .result .session) (p .piece-end .result)
 listed c =
-    let p = c .before .before .before in
+    let p = c .before .before .before .before in
     let e = p .piece-end .ensures in
     let w = p .before .before .loop .inv in
-    more w _ (e .0) (e .1) (e .2) (omega (arith, w .same)) _ (c .list .ensures .0) _ (c .list .kept .1 .0)
+    more w _ (e .0) (e .1) (e .2) (omega (arith, w .same)) _ _ (c .list .ensures .0) _ (c .list .kept .1 .1 .0)
 
 slice-reshare-prefix-put : tie.Need-slice-reshare-prefix-put Inv-loop μ-loop
 slice-reshare-prefix-put c = search needs
@@ -134,6 +137,7 @@ list-bytes-spec =
     μ-loop
     loop-holds
     piece-end-requires
+    cast-list
     sub-list
     part-list-start
     part-list-end

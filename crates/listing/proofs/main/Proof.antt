@@ -39,6 +39,9 @@ list-all-requires c κs = (rw (c .before .before .before .begin .ensures) ready-
 returns-2 : tie.Need-returns-2
 returns-2 c = search needs
 
+cast-write-end : tie.Need-cast-write-end
+cast-write-end c = search needs
+
 write-end-requires : tie.Need-write-end-requires
 write-end-requires c κs = search needs
 
@@ -69,6 +72,7 @@ main-spec =
     slice-aggregate-list-all-2
     list-all-requires
     returns-2
+    cast-write-end
     write-end-requires
     array-share-prefix-row
     slice-aggregate-put-2

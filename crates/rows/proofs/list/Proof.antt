@@ -35,30 +35,27 @@ returns c =
     let d = c .before .before .before in
     let f = d .before .before in
     let a = f .before .before .before .before .args in
-    list-refused (a .session) (now (a .input)) (now (a .out)) _ _ (sym (few f) ∙ f .rows-for .ensures) (d .decode .ensures .0) (c .if1 .taken)
+    list-refused (a .first) (a .session) (now (a .input)) (now (a .out)) _ _ (sym (few f) ∙ f .rows-for .ensures) (d .decode .ensures .0) (c .if1 .taken)
 
 -- past the test
 here : (c : tie.Else1) → let d = c .before .before .before in let f = d .before .before in let a = f .before .before .before .before .args in
-    Decoded (a .session) (now (a .input)) (now (a .out))
+    Decoded (a .first) (a .session) (now (a .input)) (now (a .out))
     (d .decode .last .1 .1 .0 ++ drop (f .rows-for .result) (f .before .sample-room .result)) (d .decode .result)
 here c =
     let d = c .before .before .before in
     let f = d .before .before in
-    decoded _ _ _ _ _ _ _ (f .before .sample-room .ensures) (f .rows-for .ensures) (d .decode .ensures .0) (d .decode .ensures .1) (c .if1 .left)
-
-cast-write-rows : tie.Need-cast-write-rows
-cast-write-rows c = search needs
+    decoded _ _ _ _ _ _ _ _ (f .before .sample-room .ensures) (f .rows-for .ensures) (d .decode .ensures .0) (d .decode .ensures .1) (c .if1 .left)
 
 array-share-prefix-samples : tie.Need-array-share-prefix-samples
-array-share-prefix-samples c = here (c .before .before) .inside
+array-share-prefix-samples c = here (c .before) .inside
 
 slice-aggregate-write-rows : tie.Need-slice-aggregate-write-rows
-slice-aggregate-write-rows c = sym (length-take-le _ _ (here (c .before .before .before) .inside))
+slice-aggregate-write-rows c = sym (length-take-le _ _ (here (c .before .before) .inside))
 
 write-rows-requires : tie.Need-write-rows-requires
 write-rows-requires c κs =
-    let h = here (c .before .before .before .before) in
-    rw (h .samples) (h .indices, h .roomy)
+    let h = here (c .before .before .before) in
+    rw (h .samples) (omega (arith, h .few), h .roomy)
 
 same-length : tie.Need-same-length
 same-length c = search needs
@@ -67,8 +64,8 @@ returns-2 : tie.Need-returns-2
 unfolding rowsOf
 returns-2 c =
     let w = c .before .before .write-rows .ensures in
-    let h = here (c .before .before .before .before .before .before .before) in
-    let e = list-done _ _ _ _ _ (h .is-done) (rw (h .samples) at (w .0)) (rw (h .samples) at (w .1 .0)) in
+    let h = here (c .before .before .before .before .before .before) in
+    let e = list-done _ _ _ _ _ _ (h .is-done) (rw (h .samples) at (w .0)) (rw (h .samples) at (w .1 .0)) in
     (rw (h .session) (e .0), (e .1, w .1 .1))
 
 pub list-spec : {M : Type 1} → statement M
@@ -81,7 +78,6 @@ list-spec =
     slice-aggregate-decode
     decode-requires
     returns
-    cast-write-rows
     array-share-prefix-samples
     slice-aggregate-write-rows
     write-rows-requires
