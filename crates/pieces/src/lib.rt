@@ -48,7 +48,13 @@ fn pack(input: &[i16], out: &mut [u8])
 }
 
 // Encodes the samples of input by pieces. A piece ends with a pair, and so does the input.
-fn encode_by(piece: &mut [i16], rate: u32, input: &[u8], out: &mut [u8], filters: Filters) -> Filters
+fn encode_by(
+    piece: &mut [i16],
+    rate: u32,
+    input: &[u8],
+    out: &mut [u8],
+    filters: Filters,
+) -> Filters
     requires { ⌜ (0 < length (now piece)) × (length (now piece) % 2 ≡ 0) ⌝ }
     requires { ⌜ (length (now input) % 2 ≡ 0) × (oddAt rate (length (now input) / 2) ≡ false) ⌝ }
     requires { ⌜ encodeRoom rate (length (now input) / 2) ≤ length (now out) ⌝ }
@@ -80,7 +86,13 @@ pub fn encode(rate: u32, input: &[u8], out: &mut [u8], filters: Filters) -> Filt
 }
 
 // Decodes the bytes of input by pieces; a byte gives two samples at the most.
-fn decode_by(piece: &mut [i16], rate: u32, input: &[u8], out: &mut [u8], filters: Filters) -> Filters
+fn decode_by(
+    piece: &mut [i16],
+    rate: u32,
+    input: &[u8],
+    out: &mut [u8],
+    filters: Filters,
+) -> Filters
     requires { ⌜ 1 < length (now piece) ⌝ }
     requires { ⌜ decodeRoom rate (length (now input)) ≤ length (now out) / 2 ⌝ }
     ensures { λ r. ⌜ r ≡ filtersAfterBytes filters (now (input .entry)) ⌝ }

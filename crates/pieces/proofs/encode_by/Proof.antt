@@ -89,7 +89,7 @@ loop-again c =
     let l = u .before .before .before in
     let h = l .before .before in
     let turned = encodes-more _ (h .loop .inv .1) _ (even h) (l .least .ensures) _ (u .unpack .ensures)
-        (e .encode-run .ensures .0) (e .encode-run .ensures .1) in
+    (e .encode-run .ensures .0) (e .encode-run .ensures .1) in
     (long u, rw (c .encode-room .ensures) turned)
 
 pub encode-by-spec : {M : Type 1} → statement M
