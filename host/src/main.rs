@@ -7,6 +7,8 @@ mod proved;
 #[cfg(original)]
 mod bench;
 #[cfg(original)]
+mod empties;
+#[cfg(original)]
 mod inside;
 #[cfg(original)]
 mod laws;
@@ -52,9 +54,10 @@ fn told(outcome: Result<(), String>) -> ExitCode {
 
 #[cfg(original)]
 fn compare() -> Result<(), String> {
+    let empties = empties::compare()?;
     let laws = laws::compare()?;
     let sessions = sessions::compare()?;
-    println!("compared: {}", laws + sessions.calls);
+    println!("compared: {}", empties + laws + sessions.calls);
     Ok(())
 }
 
