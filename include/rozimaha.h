@@ -15,9 +15,9 @@
  * others 6 comes before 7, 7 before 8, 8 before 3, 3 before 4, 4 before 5. An empty input needs no room in `out`; a G.722
  * call still needs a sound mark, and room for the new one.
  *
- * The caller must ensure that each pointer is valid for its count of bytes (it must not be null, even for a count of 0)
- * and that no output overlaps an input or another output, old and new mark included. Nothing is kept between calls, so
- * calls may run at the same time.
+ * The caller must ensure that each pointer is valid for its count of bytes, which any pointer is for a count of 0, null
+ * too; and that no output overlaps an input or another output, old and new mark included. Nothing is kept between calls,
+ * so calls may run at the same time.
  */
 #ifndef ROZIMAHA_H
 #define ROZIMAHA_H
