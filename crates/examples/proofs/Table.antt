@@ -1,5 +1,6 @@
 -- The table of worked examples (docs/RULES.md, "Examples"), each computed on the definitions that the contracts cite. A row is what a call is given, and what it
--- then answers and leaves. The buffer lent has room for an item more than is written, and holds 7s, which no example gives. negsuc n is -(n + 1).
+-- then answers and leaves. The buffer lent holds 7s, which no example gives, and where the call is done it is an item longer than what is written.
+-- negsuc n is -(n + 1).
 use mathlib.Core.List.{List, [], _∷_, zipWith}
 use mathlib.Core.Path.{_≡_, refl}
 use Prim.Native.Nat.{ℕ}
@@ -41,10 +42,6 @@ a-law-value = refl
 
 -- ---- G.722: number, count and position, and the output, of a fresh session's first call
 
--- det of the least nb and of the greatest
-pub det-of-nb : SCALEL (pos 0) ∷ SCALEH (pos 0) ∷ SCALEL (pos 18432) ∷ SCALEH (pos 22528) ∷ [] ≡ pos 32 ∷ pos 8 ∷ pos 16384 ∷ pos 16384 ∷ []
-det-of-nb = refl
-
 -- by rate, start, samples and room
 abbrev encoded : ℕ → ℕ → List ℤ → ℕ → (ℕ × ℕ × ℕ) × List ℕ
 encoded rate start samples room =
@@ -84,3 +81,7 @@ pub decodings :
     × (decoded 16000 1 (0xFA ∷ []) 3 ≡ ((done, 2, 2), pos 0 ∷ negsuc 0 ∷ pos 7 ∷ []))
 unfolding decodeAnswer decodeOut decodeNumber decodedSamples decoderAfter decoderBegun beginNumber startBegun freshAt freshFilters freshBand sessionInBounds filtersInBounds bandInBounds allBetween decodeRoom decoderMoves keptAt keptOf pairsOfBytes filtersAfterBytes decodeStep lowUpdate highUpdate magnitude first codeAt placeHigh clampZ signedBy zipWith
 decodings = (refl, refl, refl)
+
+-- det of the least nb and of the greatest
+pub det-of-nb : SCALEL (pos 0) ∷ SCALEH (pos 0) ∷ SCALEL (pos 18432) ∷ SCALEH (pos 22528) ∷ [] ≡ pos 32 ∷ pos 8 ∷ pos 16384 ∷ pos 16384 ∷ []
+det-of-nb = refl
