@@ -5,11 +5,11 @@ use Prim.Native.Nat.{ℕ, suc, _+_, _-_, _*_, _/_, _%_}
 use lib.Dec.{ltb}
 use lib.IntN.{ℤ, pos, negsuc, _-ℤ_}
 
--- the sample of 16 bits n: n itself below 32768, else n - 65536
+-- the sample of a low and a high byte: the number n of the two, or n - 65536 where n is not below 32768
 abbrev pub sampleOf : ℕ → ℕ → ℤ
 sampleOf lo hi = let n = lo + 256 * hi in cond (ltb n 32768) (pos n) (pos n -ℤ pos 65536)
 
--- and the 16 bits of a sample: 65536 more than one that is negative; negsuc n is -(n + 1)
+-- the number of a sample's two bytes: 65536 more where it is negative; negsuc n is -(n + 1)
 abbrev pub bitsOf : ℤ → ℕ
 bitsOf (pos n) = n
 bitsOf (negsuc n) = 65536 - suc n
