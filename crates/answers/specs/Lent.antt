@@ -12,9 +12,12 @@ use Rattle.answers.specs.declared.Answer.{Answer}
 abbrev pub leaves : {A : Type 0} → ℕ → List A → List A → List A
 leaves number items out = cond (eqb number done) (sets out 0 items) out
 
+abbrev pub reply : ℕ → ℕ → Answer
+reply number count = record { number = number; count = count }
+
 -- the answer with this number of a call that writes n items if it is done
 abbrev pub answer : ℕ → ℕ → Answer
-answer number n = record { number = number; count = cond (eqb number done) n 0 }
+answer number n = reply number (cond (eqb number done) n 0)
 
 -- the number of a call that needs room for n items and refuses for nothing else
 abbrev pub roomNumber : ℕ → ℕ → ℕ

@@ -1,4 +1,7 @@
 // What a call answers: a number, and how many items it wrote. docs/RULES.md, "Answers".
+ghost use mathlib.Core.Path.{_≡_};
+ghost use Rattle.answers.specs.Numbers.{done};
+ghost use Rattle.answers.specs.Lent.{reply};
 
 pub const DONE: u8 = 0;
 
@@ -30,4 +33,20 @@ pub const NUMBER_OUT_OF_BOUNDS: u8 = 8;
 pub struct Answer {
     pub number: u8,
     pub count: usize,
+}
+
+// A refusal wrote nothing.
+pub fn refused(number: u8) -> Answer
+    ensures { λ r. ⌜ r ≡ reply number 0 ⌝ }
+{
+    Answer { number, count: 0 }
+}
+
+pub fn done(count: usize) -> Answer
+    ensures { λ r. ⌜ r ≡ reply done count ⌝ }
+{
+    Answer {
+        number: DONE,
+        count,
+    }
 }

@@ -14,6 +14,7 @@ use mir.Val.{Fits}
 use borrow.Author.Tests.{lt-ltb, le-ltb, leb-true, eq-eqb, ne-eqb}
 use Rattle.answers.specs.Numbers.{done, outOfBounds, noRoom, malformed, otherKind, numberOutOfBounds}
 use Rattle.answers.specs.declared.Answer.{Answer}
+use Rattle.answers.specs.Lent.{reply}
 use Rattle.band.specs.declared.Filters.{Filters}
 use Rattle.band.specs.Bounds.{filtersInBounds}
 use Rattle.band.proofs.Boxes.{left, right}
@@ -32,25 +33,24 @@ use Rattle.mark.specs.Either.{lineAnswer, restoredWith, refusedWith, sai
 -- ---- writing
 
 module _ (inside : Bool) (line out : List ℕ) where
-  abbrev Leaves : ℕ → ℕ → List ℕ → Type 0
-  Leaves number count p =
-      (record { number = number; count = count } ≡ lineAnswer inside line (length out)) × (p ≡ writeOut inside line out)
+  abbrev Leaves : Answer → List ℕ → Type 0
+  Leaves a p = (a ≡ lineAnswer inside line (length out)) × (p ≡ writeOut inside line out)
 
-  pub outside : inside ≡ false → Leaves outOfBounds 0 out
+  pub outside : {a : Answer} → inside ≡ false → a ≡ reply outOfBounds 0 → Leaves a out
   unfolding writeNumber writeOut
-  outside e = (rw e, rw e)
+  outside e r = (r ∙ rw e, rw e)
 
-  pub no-room : inside ≡ true → length out < length line → Leaves noRoom 0 out
+  pub no-room : {a : Answer} → inside ≡ true → length out < length line → a ≡ reply noRoom 0 → Leaves a out
   unfolding writeNumber writeOut
-  no-room e h = let t = lt-ltb (length out) (length line) h in (rw (e, t), rw (e, t))
+  no-room e h r = let t = lt-ltb (length out) (length line) h in (r ∙ rw (e, t), rw (e, t))
 
-  pub written : inside ≡ true → (count : ℕ) → count ≡ length line → count ≤ length out → (p : List ℕ) → p ≡ line ++ drop count out
-      → Leaves done count p
+  pub written : {a : Answer} {count : ℕ} {p : List ℕ} → inside ≡ true → count ≡ length line → count ≤ length out → a ≡ reply done count
+      → p ≡ line ++ drop count out → Leaves a p
   unfolding writeNumber writeOut
-  written e count n h p q =
+  written e n h r q =
       let t = le-ltb (length out) (length line) (omega (arith, n)) in
       let none : 0 + length line ≡ length line = omega arith in
-      (rw (e, t, n), rw (e, t, sets-eq line out 0 (omega (arith, n)), none) (rw n at q))
+      (r ∙ rw (e, t, n), rw (e, t, sets-eq line out 0 (omega (arith, n)), none) (rw n at q))
 
 pub answered : {S A : Type 0} (reply : ℕ → ℕ → S → A) (inside : Bool) (line : List ℕ) (s : S) (room : ℕ) (a : Answer)
     → a ≡ lineAnswer inside line room → reply (a .number) (a .count) s ≡ writeAnswer reply inside line s room

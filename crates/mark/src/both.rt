@@ -46,25 +46,16 @@ pub(crate) fn write(
     ensures { λ _. ⌜ now (out .exit) ≡ writeOut inside (lineOf kind rate start position filters) (now (out .entry)) ⌝ }
 {
     if !inside {
-        return Answer {
-            number: answers::OUT_OF_BOUNDS,
-            count: 0,
-        };
+        return answers::refused(answers::OUT_OF_BOUNDS);
     }
     let mut vs = [0i64; 72];
     flat::put_numbers(&mut vs, rate, position, filters);
     let count = line::line_length(&vs);
     if out.len() < count {
-        return Answer {
-            number: answers::NO_ROOM,
-            count: 0,
-        };
+        return answers::refused(answers::NO_ROOM);
     }
     line::write_line(out, kind, letter_of(start), &vs);
-    Answer {
-        number: answers::DONE,
-        count: count,
-    }
+    answers::done(count)
 }
 
 // The number that a line is answered with and, where that is 0, the parts of the session that it says.

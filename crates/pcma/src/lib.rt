@@ -9,8 +9,9 @@ ghost use Rattle.pcma.specs.Alaw.{ends, first, lowBits, aByte, aSize, aV
 use answers::Answer;
 use answers::DONE;
 use answers::NO_ROOM;
-use answers::ODD_COUNT;
-use samples::bits;
+use answers::done;
+use answers::refused;
+use samples::encoding_number;
 use samples::fold;
 use samples::sample;
 
@@ -93,20 +94,14 @@ pub fn encode(input: &[i16], out: &mut [u8]) -> Answer
     ensures { λ _. ⌜ now (out .exit) ≡ mapOutput aByte (now (input .entry)) (now (out .entry)) ⌝ }
 {
     if out.len() < input.len() {
-        return Answer {
-            number: NO_ROOM,
-            count: 0,
-        };
+        return refused(NO_ROOM);
     }
     let mut i = 0;
     while i < input.len() {
         out[i] = byte_of(input[i]);
         i += 1;
     }
-    Answer {
-        number: DONE,
-        count: input.len(),
-    }
+    done(input.len())
 }
 
 // Each byte's value. Answers 0 and the count, or 4.
@@ -114,22 +109,8 @@ pub fn decode(payload: &[u8], out: &mut [i16]) -> Answer
     ensures { λ r. ⌜ r ≡ mapAnswer (now (payload .entry)) (now (out .entry)) ⌝ }
     ensures { λ _. ⌜ now (out .exit) ≡ mapOutput aValue (now (payload .entry)) (now (out .entry)) ⌝ }
 {
-    if out.len() < payload.len() {
-        return Answer {
-            number: NO_ROOM,
-            count: 0,
-        };
-    }
     let values = tables::decoding_table();
-    let mut i = 0;
-    while i < payload.len() {
-        out[i] = values[payload[i] as usize];
-        i += 1;
-    }
-    Answer {
-        number: DONE,
-        count: payload.len(),
-    }
+    lookup::decode(&values, payload, out)
 }
 
 // The byte of each sample, where samples come as bytes. Answers 0 and the count of bytes written, 3 or 4.
@@ -137,28 +118,17 @@ pub fn encode_from_bytes(input: &[u8], out: &mut [u8]) -> Answer
     ensures { λ r. ⌜ r ≡ fromBytesAnswer (now (input .entry)) (now (out .entry)) ⌝ }
     ensures { λ _. ⌜ now (out .exit) ≡ fromBytesOutput aByte (now (input .entry)) (now (out .entry)) ⌝ }
 {
-    if input.len() % 2 != 0 {
-        return Answer {
-            number: ODD_COUNT,
-            count: 0,
-        };
+    let number = encoding_number(input.len(), out.len());
+    if number != DONE {
+        return refused(number);
     }
     let count = input.len() / 2;
-    if out.len() < count {
-        return Answer {
-            number: NO_ROOM,
-            count: 0,
-        };
-    }
     let mut i = 0;
     while i < count {
         out[i] = byte_of(sample(input[2 * i], input[2 * i + 1]));
         i += 1;
     }
-    Answer {
-        number: DONE,
-        count,
-    }
+    done(count)
 }
 
 // The value of each byte, where samples leave as bytes. Answers 0 and the count of bytes written, or 4.
@@ -166,22 +136,6 @@ pub fn decode_to_bytes(payload: &[u8], out: &mut [u8]) -> Answer
     ensures { λ r. ⌜ r ≡ toBytesAnswer (now (payload .entry)) (now (out .entry)) ⌝ }
     ensures { λ _. ⌜ now (out .exit) ≡ toBytesOutput aValue (now (payload .entry)) (now (out .entry)) ⌝ }
 {
-    if out.len() / 2 < payload.len() {
-        return Answer {
-            number: NO_ROOM,
-            count: 0,
-        };
-    }
     let values = tables::decoding_table();
-    let mut i = 0;
-    while i < payload.len() {
-        let b = bits(values[payload[i] as usize]);
-        out[2 * i] = (b % 256) as u8;
-        out[2 * i + 1] = (b / 256) as u8;
-        i += 1;
-    }
-    Answer {
-        number: DONE,
-        count: 2 * payload.len(),
-    }
+    lookup::decode_to_bytes(&values, payload, out)
 }

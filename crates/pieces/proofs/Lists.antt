@@ -8,9 +8,8 @@ use lib.IntN.{ℤ}
 use lib.ListN.{length, getD, take, drop, set, drop-of-length-le, length-drop, take-append-drop}
 use lib.Seq.{sets, sets-eq, take-all}
 use borrow.Rule.Slice.PartMut.{midOf, putMid, post-is}
-use mir.Syntax.{w16}
-use mir.Facts.{sfits-toZ}
 use Rattle.samples.specs.Bytes.{sampleOf, samples, bytes}
+use Rattle.samples.proofs.Words.{sample-fits}
 use Rattle.fixed.proofs.Wide.{in16-of}
 use Rattle.band.specs.Bounds.{allWords}
 use Rattle.band.proofs.Boxes.{no-words, more-words, head-word, tail-words}
@@ -74,6 +73,5 @@ pub samples-words : (l : List ℕ) → ((k : ℕ) → getD l k 0 < 256) → allW
 samples-words [] h = no-words
 samples-words (lo ∷ []) h = no-words
 samples-words (lo ∷ (hi ∷ bs)) h =
-    let small : lo + 256 * hi < 65536 = omega (arith, h 0, h 1) in
-    let word = in16-of (sampleOf lo hi) (sfits-toZ {w = w16} (record { fits = small })) in
+    let word = in16-of (sampleOf lo hi) (sample-fits lo hi (h 0) (h 1)) in
     more-words (sampleOf lo hi) (samples bs) word (samples-words bs (λ k. h (suc (suc k))))

@@ -1,19 +1,20 @@
--- Loops over samples as bytes, and what the calls on them answer.
+-- Loops over samples as bytes, and the room that they have.
+use mathlib.Core.Bool.{Bool, true, false, cond}
 use mathlib.Core.List.{List, [], _∷_, map}
-use mathlib.Core.Path.{_≡_, refl}
+use mathlib.Core.Path.{_≡_, refl, sym, _∙_}
 use Prim.Native.Nat.{ℕ, zero, suc, _+_, _*_, _/_, _%_, _<_, _≤_}
 use native.Mathlib.Nat.{not-suc-le-zero}
 use native.Mathlib.Numerals.{add-one}
 use native.Mathlib.Omega.{arith}
+use lib.Dec.{eqb, ltb}
 use lib.IntN.{ℤ, pos}
 use lib.ListN.{length, getD, drop, set, drop-of-length-le}
 use lib.Seq.{sets, drop-cons}
-use borrow.Author.Tests.{lt-ltb, le-ltb, eq-eqb, ne-eqb}
+use borrow.Author.Tests.{ltb-false}
 use Rattle.answers.specs.Numbers.{done, oddCount, noRoom}
-use Rattle.answers.specs.Lent.{answer}
 use Rattle.answers.proofs.Filling.{Filling, starts, put, ends}
 use Rattle.samples.specs.Bytes.{sampleOf, bitsOf, samples, bytes}
-use Rattle.samples.specs.Lent.{fromBytesAnswer, fromBytesOutput, toBytesAnswer, toBytesOutput}
+use Rattle.samples.specs.Lent.{encodingNumber}
 
 pub length-samples : (l : List ℕ) → length (samples l) ≡ length l / 2
 length-samples [] = refl
@@ -50,36 +51,15 @@ module _ {A : Type 0} {f : A → ℤ} {xs : List A} {start : List ℕ} where
     pub last-turn : Pairing f xs start out i → length xs ≤ i → out ≡ sets start 0 (bytes (map f xs))
     last-turn p h = ends (p .filling) (rw (drop-of-length-le xs h))
 
--- what a call answers and leaves that takes samples
-module _ (f : ℤ → ℕ) (xs ys : List ℕ) where
-  pub odd : (length xs % 2 ≡ 0 → ⊥) → (answer oddCount 0 ≡ fromBytesAnswer xs ys) × (ys ≡ fromBytesOutput f xs ys)
-  odd h =
-      let o = ne-eqb (length xs % 2) 0 h in
-      (rw o, rw o)
+-- n bytes of samples that a call does not refuse have a byte of room for each sample
+pub record Accepted (n room : ℕ) : Type 0 where
+  pub number : encodingNumber n room ≡ done
+  pub fits : n / 2 ≤ room
 
-  module _ (even : length xs % 2 ≡ 0) where
-    pub from-short : length ys < length xs / 2 → (answer noRoom 0 ≡ fromBytesAnswer xs ys) × (ys ≡ fromBytesOutput f xs ys)
-    from-short h =
-        let e = eq-eqb (length xs % 2) 0 even in
-        let t = lt-ltb (length ys) (length xs / 2) h in
-        (rw (e, t), rw (e, t))
-
-    pub from-done : {zs : List ℕ} → length xs / 2 ≤ length ys → zs ≡ sets ys 0 (map f (samples xs))
-        → (answer done (length xs / 2) ≡ fromBytesAnswer xs ys) × (zs ≡ fromBytesOutput f xs ys)
-    from-done h l =
-        let e = eq-eqb (length xs % 2) 0 even in
-        let t = le-ltb (length ys) (length xs / 2) h in
-        (rw (e, t), rw (e, t) l)
-
--- and one that gives samples
-module _ (f : ℕ → ℤ) (xs ys : List ℕ) where
-  pub to-short : length ys < 2 * length xs → (answer noRoom 0 ≡ toBytesAnswer xs ys) × (ys ≡ toBytesOutput f xs ys)
-  to-short h =
-      let t = lt-ltb (length ys) (2 * length xs) h in
-      (rw t, rw t)
-
-  pub to-done : {zs : List ℕ} → 2 * length xs ≤ length ys → zs ≡ sets ys 0 (bytes (map f xs))
-      → (answer done (2 * length xs) ≡ toBytesAnswer xs ys) × (zs ≡ toBytesOutput f xs ys)
-  to-done h l =
-      let t = le-ltb (length ys) (2 * length xs) h in
-      (rw t, rw t l)
+pub accepts : (n room : ℕ) {number : ℕ} → number ≡ encodingNumber n room → number ≡ done → Accepted n room
+accepts n room e d = record { number = sym e ∙ d; fits = go (eqb (n % 2) 0) (ltb room (n / 2)) refl (sym e ∙ d) }
+  where
+    go : (even short : Bool) → ltb room (n / 2) ≡ short → cond even (cond short noRoom done) oddCount ≡ done → n / 2 ≤ room
+    go true false t z = ltb-false room (n / 2) t
+    go true true t z = absurd (omega arith)
+    go false short t z = absurd (omega arith)

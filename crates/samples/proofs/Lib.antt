@@ -1,5 +1,6 @@
 pub mod Cond
 pub mod Sign
 pub mod Table
+pub mod Words
 pub mod Bytes
 pub mod Determined

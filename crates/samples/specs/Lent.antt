@@ -10,9 +10,13 @@ use Rattle.answers.specs.Numbers.{oddCount}
 use Rattle.answers.specs.Lent.{answer, leaves, roomNumber}
 use Rattle.samples.specs.Bytes.{samples, bytes}
 
--- f of each sample of the input: 3 for an odd count of bytes, then 4 for too little room
+-- the number of a call that takes n bytes of samples and writes a byte for each sample: 3 for an odd count, then 4 for too little room
+abbrev pub encodingNumber : ℕ → ℕ → ℕ
+encodingNumber n room = cond (eqb (n % 2) 0) (roomNumber (n / 2) room) oddCount
+
+-- f of each sample of the input
 abbrev pub fromBytesNumber : List ℕ → List ℕ → ℕ
-fromBytesNumber input out = cond (eqb (length input % 2) 0) (roomNumber (length input / 2) (length out)) oddCount
+fromBytesNumber input out = encodingNumber (length input) (length out)
 
 abbrev pub fromBytesAnswer : List ℕ → List ℕ → Answer
 fromBytesAnswer input out = answer (fromBytesNumber input out) (length input / 2)
@@ -20,7 +24,7 @@ fromBytesAnswer input out = answer (fromBytesNumber input out) (length input / 2
 abbrev pub fromBytesOutput : (ℤ → ℕ) → List ℕ → List ℕ → List ℕ
 fromBytesOutput f input out = leaves (fromBytesNumber input out) (map f (samples input)) out
 
--- f of each byte of the input, as two bytes: 4 for too little room
+-- f of each byte of the input, as two bytes
 abbrev pub toBytesNumber : List ℕ → List ℕ → ℕ
 toBytesNumber input out = roomNumber (2 * length input) (length out)
 

@@ -2,7 +2,11 @@
 ghost use mathlib.Core.Path.{_≡_};
 ghost use lib.IntN.{natAbs};
 ghost use Rattle.samples.specs.Bytes.{sampleOf, bitsOf};
+ghost use Rattle.samples.specs.Lent.{encodingNumber};
 ghost use Rattle.samples.specs.Sign.{foldOf};
+use answers::DONE;
+use answers::NO_ROOM;
+use answers::ODD_COUNT;
 
 // n of n and of -n.
 pub fn magnitude(s: i16) -> u32
@@ -56,4 +60,17 @@ pub fn bits(s: i16) -> u16
 {
     let f = fold(s);
     if f.negative { 65535 - f.size } else { f.size }
+}
+
+// The number of a call that takes `count` bytes of samples and writes a byte for each sample.
+pub fn encoding_number(count: usize, room: usize) -> u8
+    ensures { λ r. ⌜ r ≡ encodingNumber count room ⌝ }
+{
+    if count % 2 != 0 {
+        return ODD_COUNT;
+    }
+    if room < count / 2 {
+        return NO_ROOM;
+    }
+    DONE
 }

@@ -2,6 +2,7 @@
 use mathlib.Core.Path.{_≡_, ap}
 use Prim.Native.Nat.{ℕ, zero, suc, _<_, _≤_, zero-le}
 use native.Mathlib.Omega.{arith}
+use lib.Bits.{bitXor}
 use lib.IntN.{pos, negℤ, _-ℤ_, +ℤ-idl}
 use lib.Signed.{mag}
 use mir.Syntax.{w16}
@@ -40,7 +41,8 @@ unfolding aValue signed
 returns c =
     let n = c .before .size-of .result in
     let h = c .before .size-of .ensures in
-    rw (negated n (h .1), toZ-ofZ (fits n (h .1)), lt-ltb _ _ (c .if1 .taken)) (ap (λ m. negℤ (pos m)) (h .0))
+    let below = lt-ltb (bitXor (c .before .before .args .b) 0x55) 128 (c .if1 .taken) in
+    rw (negated n (h .1), toZ-ofZ (fits n (h .1)), below) (ap (λ m. negℤ (pos m)) (h .0))
 
 returns-2 : tie.Need-returns-2
 unfolding aValue signed

@@ -1,4 +1,4 @@
--- `pcmu::encode` meets its contract: the byte of each sample, one a turn.
+-- `pcmu::encode` meets its contract: the byte of a sample a turn.
 use mathlib.Core.Path.{ap, _∙_}
 use Prim.Native.Nat.{_-_}
 use lib.IntN.{pos}
@@ -6,7 +6,7 @@ use lib.ListN.{length}
 use mir.Syntax.{w16}
 use mir.Facts.{toZ-ofZ}
 use borrow.Author.Needs.{needs}
-use Rattle.answers.proofs.Answered.{short, mapped}
+use borrow.Author.Tests.{lt-ltb, le-ltb}
 use Rattle.answers.proofs.Filling.{Mapping, no-turn, turn, last-turn}
 use Rattle.pcmu.specs.Mulaw.{muByte}
 use Rattle.pcmu.proofs.encode.Statement.{statement}
@@ -19,9 +19,7 @@ abbrev μ-loop : tie.MeasureT-loop
 μ-loop input out₀ table i₀ out i = length input - i
 
 returns : tie.Need-returns Inv-loop μ-loop
-returns c =
-    let a = c .before .before .args in
-    short muByte (a .input .now) (a .out .now) (c .if1 .taken)
+returns c = let short = lt-ltb _ _ (c .before .if1 .taken) in (c .refused .ensures ∙ rw short, rw short)
 
 loop-again : tie.Need-loop-again Inv-loop μ-loop
 loop-again c =
@@ -30,9 +28,9 @@ loop-again c =
 
 returns-2 : tie.Need-returns-2 Inv-loop μ-loop
 returns-2 c =
-    let a = c .before .before .before .before .before .args in
-    mapped muByte (a .input .now) (a .out .now) (c .before .before .before .if1 .left)
-    (last-turn (c .before .loop .inv) (c .loop-test .left))
+    let head = c .before .before in
+    let enough = le-ltb _ _ (head .before .before .if1 .left) in
+    (c .done .ensures ∙ rw enough, rw enough (last-turn (head .loop .inv) (c .before .loop-test .left)))
 
 pub encode-spec : {M : Type 1} → statement M
 encode-spec =
@@ -40,6 +38,7 @@ encode-spec =
     (tie.spec
     Inv-loop
     μ-loop
+    (λ c κs. tt)
     returns
     (λ c κs. tt)
     (λ c. no-turn)
@@ -50,5 +49,6 @@ encode-spec =
     (λ c. search needs)
     (λ c. search needs)
     loop-again
-    (λ c. c .before .loop .inv .filling .long)
+    (λ c κs. tt)
+    (λ c. c .before .before .loop .inv .filling .long)
     returns-2)

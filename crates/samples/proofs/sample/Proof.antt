@@ -6,8 +6,11 @@ use native.Mathlib.Omega.{arith}
 use lib.IntN.{pos, negsuc, _-ℤ_}
 use mir.Syntax.{w16}
 use mir.Val.{SFits, toZ}
-use mir.Facts.{toZ-ofZ, toZ-pos, toZ-neg, sfits-toZ}
+use mir.Facts.{toZ-ofZ, toZ-pos}
 use borrow.Author.Needs.{needs}
+use borrow.Author.Tests.{lt-ltb, le-ltb}
+use Rattle.samples.specs.Bytes.{sampleOf}
+use Rattle.samples.proofs.Words.{sample-is, sample-fits}
 use Rattle.samples.proofs.sample.Statement.{statement}
 use Rattle.samples.proofs.sample.Tie as tie
 
@@ -15,45 +18,38 @@ down : (m : ℕ) → negsuc 0 -ℤ pos m ≡ negsuc m
 down zero = refl
 down (suc m) = ap (λ (k : ℕ). negsuc (suc k)) (zero-add m)
 
-module _ (n : ℕ) (l : 32768 ≤ n) (h : n < 65536) where
-  under : 65535 - n < 32768
-  under = omega arith
+module _ (lo hi : ℕ) (l : lo < 256) (h : hi < 256) where
+  turned : 32768 ≤ lo + 256 * hi → negsuc 0 -ℤ toZ w16 (65535 - (lo + 256 * hi)) ≡ sampleOf lo hi
+  turned high =
+      let n = lo + 256 * hi in
+      rw (toZ-pos w16 {n = 65535 - n} (omega arith), le-ltb n 32768 high, lt-ltb n 65536 (omega arith))
+      (down (65535 - n) ∙ ap negsuc (omega arith))
 
-  turned : negsuc 0 -ℤ toZ w16 (65535 - n) ≡ toZ w16 n
-  turned =
-      let e : 65536 - suc (65535 - n) ≡ n = omega arith in
-      rw (toZ-pos w16 under) (down (65535 - n) ∙ sym (toZ-neg w16 (65535 - n) under) ∙ ap (toZ w16) e)
+module _ (c : tie.Start) where
+  low-byte : c .args .lo < 256
+  low-byte = search needs
 
-  fits : SFits w16 (toZ w16 n)
-  fits = sfits-toZ (record { fits = h })
+  high-byte : c .args .hi < 256
+  high-byte = search needs
 
-mul-n : tie.Need-mul-n
-mul-n c = search needs
+  pub cast-is : toZ w16 (c .args .lo + 256 * c .args .hi) ≡ sampleOf (c .args .lo) (c .args .hi)
+  cast-is = sym (sample-is _ _ low-byte high-byte)
 
-add-n : tie.Need-add-n
-add-n c = search needs
+  fits : SFits w16 (sampleOf (c .args .lo) (c .args .hi))
+  fits = sample-fits _ _ low-byte high-byte
 
-cast-result : tie.Need-cast-result
-cast-result c = search needs
-
-sub-result : tie.Need-sub-result
-sub-result c = search needs
-
-cast-result-2 : tie.Need-cast-result-2
-cast-result-2 c = search needs
-
-sub-result-2 : tie.Need-sub-result-2
-sub-result-2 c =
-    let n = c .before .args .lo + 256 * c .before .args .hi in
-    rw (turned n (omega arith) (omega arith)) (fits n (omega arith) (omega arith))
-
-returns : tie.Need-returns
-returns c = search needs
-
-returns-2 : tie.Need-returns-2
-returns-2 c =
-    let n = c .before .args .lo + 256 * c .before .args .hi in
-    rw (turned n (omega arith) (omega arith)) (toZ-ofZ (fits n (omega arith) (omega arith)))
+negative : (c : tie.Else1) → let a = c .before .args in negsuc 0 -ℤ toZ w16 (65535 - (a .lo + 256 * a .hi)) ≡ sampleOf (a .lo) (a .hi)
+negative c = turned _ _ (low-byte (c .before)) (high-byte (c .before)) (search needs)
 
 pub sample-spec : {M : Type 1} → statement M
-sample-spec = tie.close (tie.spec mul-n add-n cast-result sub-result cast-result-2 sub-result-2 returns returns-2)
+sample-spec =
+    tie.close
+    (tie.spec
+    (λ c. search needs)
+    (λ c. search needs)
+    (λ c. search needs)
+    (λ c. search needs)
+    (λ c. search needs)
+    (λ c. rw (negative c) (fits (c .before)))
+    (λ c. cast-is (c .before))
+    (λ c. rw (negative c) (toZ-ofZ (fits (c .before)))))

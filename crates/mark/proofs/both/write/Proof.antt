@@ -23,7 +23,7 @@ counted c =
     ∙ ap (λ (vs : List ℤ). length (lineText (a .kind) (letterOf (a .start)) vs)) (c .before .before .before .put-numbers .ensures)
 
 returns : tie.Need-returns
-returns c = outside _ _ _ (not-true _ (c .if1 .taken))
+returns c = outside _ _ _ (not-true _ (c .before .if1 .taken)) (c .refused .ensures)
 
 slice-aggregate-put-numbers : tie.Need-slice-aggregate-put-numbers
 slice-aggregate-put-numbers c = search needs
@@ -39,8 +39,9 @@ line-length-requires c κs = search needs
 
 returns-2 : tie.Need-returns-2
 returns-2 c =
-    let inside = not-false _ (c .before .before .before .before .before .before .if1 .left) in
-    no-room _ _ _ inside (omega (arith, c .if2 .taken, counted (c .before)))
+    let l = c .before .before in
+    let inside = not-false _ (l .before .before .before .before .before .if1 .left) in
+    no-room _ _ _ inside (omega (arith, c .before .if2 .taken, counted l)) (c .refused2 .ensures)
 
 letter-of-requires : tie.Need-letter-of-requires
 letter-of-requires c κs = tt
@@ -60,28 +61,31 @@ same-length c = search needs
 returns-3 : tie.Need-returns-3
 unfolding lineOf
 returns-3 c =
-    let w = c .before .before .write-line .ensures in
-    let z = c .before .before .before .before in
+    let w = c .before .before .before .write-line .ensures in
+    let z = c .before .before .before .before .before in
     let l = z .before .before .before in
     let n = l .before .before .before in
     let a = n .before .before .before .before .args in
     let text = ap₂ (lineText (a .kind)) (z .letter-of .ensures) (n .put-numbers .ensures) in
     let count = w .0 ∙ ap length text ∙ sym (counted l) in
-    written _ _ (a .out .now) (not-false _ (n .before .before .if1 .left)) _ (counted l) (z .before .before .if2 .left) _
+    written _ _ (a .out .now) (not-false _ (n .before .before .if1 .left)) (counted l) (z .before .before .if2 .left) (c .done .ensures)
     (w .1 ∙ ap₂ (λ (t : List ℕ) (k : ℕ). t ++ drop k (a .out .now)) text count)
 
 pub write-spec : {M : Type 1} → statement M
 write-spec =
     tie.close
     (tie.spec
+    (λ c κs. tt)
     returns
     slice-aggregate-put-numbers
     put-numbers-requires
     slice-aggregate-line-length
     line-length-requires
+    (λ c κs. tt)
     returns-2
     letter-of-requires
     slice-aggregate-write-line
     write-line-requires
+    (λ c κs. tt)
     same-length
     returns-3)
