@@ -1,5 +1,5 @@
 pub mod Answered
 pub mod Filling
 pub mod Coding
-pub mod Done
+pub mod ByNumber
 pub mod Determined

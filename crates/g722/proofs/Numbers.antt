@@ -10,7 +10,7 @@ use lib.Seq.{sets}
 use lib.Dec.{eqb, lit<}
 use borrow.Author.Tests.{eqb-true, ltb-false, le-ltb, not-false}
 use Rattle.answers.specs.Numbers.{done}
-use Rattle.answers.proofs.Done.{refused-is, done-is}
+use Rattle.answers.proofs.ByNumber.{refused-is, done-is}
 use Rattle.samples.specs.Bytes.{samples, bytes}
 use Rattle.samples.proofs.Bytes.{length-samples}
 use Rattle.runs.specs.Rates.{encodeRoom, decodeRoom, oddAt}
