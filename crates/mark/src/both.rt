@@ -71,7 +71,7 @@ fn refused(number: u8) -> Restored
     ensures { λ r. ⌜ r ≡ refusedWith number ⌝ }
 {
     Restored {
-        number: number,
+        number,
         rate: 0,
         start: 0,
         position: 0,
@@ -95,7 +95,7 @@ fn said_by(letter: u8, vs: &[i64]) -> Restored
             rate: rate as u32,
             start: start_of(letter),
             position: position as u32,
-            filters: filters,
+            filters,
         };
     }
     refused(answers::NUMBER_OUT_OF_BOUNDS)

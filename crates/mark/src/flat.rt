@@ -149,13 +149,13 @@ pub(crate) fn filters_of(vs: &[i64]) -> Said
     let low_band = band_of(low);
     let high_band = band_of(high);
     let filters = Filters {
-        x: x,
+        x,
         low: low_band,
         high: high_band,
     };
     let filters_in = filters.in_bounds();
     Said {
         inside: x_words & low_words & high_words & filters_in,
-        filters: filters,
+        filters,
     }
 }

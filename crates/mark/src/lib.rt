@@ -30,7 +30,7 @@ pub fn write_encoder(session: Encoder, out: &mut [u8]) -> EncoderAnswer
     EncoderAnswer {
         number: encoder_line.number,
         count: encoder_line.count,
-        session: session,
+        session,
     }
 }
 
@@ -44,7 +44,7 @@ pub fn restore_encoder(session: Encoder, line: &[u8]) -> EncoderAnswer
         return EncoderAnswer {
             number: encoder.number,
             count: 0,
-            session: session,
+            session,
         };
     }
     let filters = encoder.filters;
@@ -52,7 +52,7 @@ pub fn restore_encoder(session: Encoder, line: &[u8]) -> EncoderAnswer
         rate: encoder.rate,
         start: encoder.start,
         position: encoder.position,
-        filters: filters,
+        filters,
     };
     EncoderAnswer {
         number: answers::DONE,
@@ -80,7 +80,7 @@ pub fn write_decoder(session: Decoder, out: &mut [u8]) -> DecoderAnswer
     DecoderAnswer {
         number: decoder_line.number,
         count: decoder_line.count,
-        session: session,
+        session,
     }
 }
 
@@ -94,7 +94,7 @@ pub fn restore_decoder(session: Decoder, line: &[u8]) -> DecoderAnswer
         return DecoderAnswer {
             number: decoder.number,
             count: 0,
-            session: session,
+            session,
         };
     }
     let filters = decoder.filters;
@@ -102,7 +102,7 @@ pub fn restore_decoder(session: Decoder, line: &[u8]) -> DecoderAnswer
         rate: decoder.rate,
         start: decoder.start,
         position: decoder.position,
-        filters: filters,
+        filters,
     };
     DecoderAnswer {
         number: answers::DONE,
