@@ -2,7 +2,9 @@ pub mod Numbers
 pub mod Inside
 pub mod Short
 pub mod Round
+pub mod Newline
 pub mod Never
+pub mod Restored
 pub mod Marks
 pub mod Examples
 pub mod Casts

@@ -1,20 +1,25 @@
--- The marks of encoders and of decoders: 512 bytes hold them, the round trip, and the other kind's lines.
+-- The marks of encoders and of decoders: 512 bytes hold them, the round trip, the other kind's lines, and any text at all.
 use Prim.Native.Nat.{ℕ, _≤_}
 use mathlib.Core.Path.{_≡_, refl}
 use mathlib.Core.Bool.{true}
 use mathlib.Core.List.{List}
+use mathlib.Core.Logic.{_↔_}
 use lib.ListN.{length, take}
-use Rattle.answers.specs.Numbers.{done, otherKind}
+use Rattle.answers.specs.Numbers.{done, malformed, otherKind}
 use Rattle.g722.specs.declared.Encoder.{Encoder}
+use Rattle.g722.specs.declared.EncoderAnswer.{EncoderAnswer}
 use Rattle.g722.specs.declared.Decoder.{Decoder}
+use Rattle.g722.specs.declared.DecoderAnswer.{DecoderAnswer}
 use Rattle.g722.specs.Encoding.{encoderAt, encoderReply, encoderInBounds}
 use Rattle.g722.specs.Decoding.{decoderAt, decoderReply, decoderInBounds}
 use Rattle.line.specs.Letters.{LETTER-E, LETTER-D}
-use Rattle.mark.specs.Answer.{rateMost, writeAnswer, restoreNumber}
+use Rattle.line.specs.Line.{WellFormed}
+use Rattle.mark.specs.Answer.{rateMost, numberCount, writeAnswer, restoreNumber}
 use Rattle.mark.specs.Marks.{encoderLine, encoderWriteAnswer, encoderWriteOut, encoderRestoreAnswer}
 use Rattle.mark.specs.Marks.{decoderLine, decoderWriteAnswer, decoderWriteOut, decoderRestoreAnswer}
 use Rattle.mark.proofs.Short.{writes}
 use Rattle.mark.proofs.Round.{other-kind, round-trip}
+use Rattle.mark.proofs.Restored.{malformed-text, restored-holds, number-is}
 
 module _ (w : Encoder) (r : w .rate ≤ rateMost) (e : encoderInBounds w ≡ true) where
   pub encoder-writes : (room : ℕ) → 512 ≤ room → encoderWriteAnswer w room .number ≡ done
@@ -31,6 +36,19 @@ module _ (w : Encoder) (r : w .rate ≤ rateMost) (e : encoderInBounds w ≡ tru
   pub encoder-line-refused : restoreNumber true LETTER-D (encoderLine w) ≡ otherKind
   encoder-line-refused = other-kind LETTER-E (w .rate) (w .start) (w .position) (w .filters) r e refl LETTER-D refl
 
+-- s restores any text
+module _ (s : Encoder) (text : List ℕ) (e : encoderInBounds s ≡ true) where
+  pub encoder-malformed : (encoderRestoreAnswer s text .number ≡ malformed) ↔ (WellFormed numberCount text → ⊥)
+  encoder-malformed =
+      rw (number-is encoderReply encoderAt (λ (a : EncoderAnswer). a .number) (λ n c t. refl) (encoderInBounds s) LETTER-E s text, e)
+      (malformed-text LETTER-E text)
+
+  pub encoder-restored-in : encoderInBounds (encoderRestoreAnswer s text .session) ≡ true
+  encoder-restored-in =
+      rw e (restored-holds encoderReply encoderAt (λ a. encoderInBounds (a .session) ≡ true) (λ rate start position f i. i) LETTER-E s text (λ n. e))
+
+-- ---- decoders, likewise
+
 module _ (w : Decoder) (r : w .rate ≤ rateMost) (e : decoderInBounds w ≡ true) where
   pub decoder-writes : (room : ℕ) → 512 ≤ room → decoderWriteAnswer w room .number ≡ done
   unfolding writeAnswer
@@ -44,3 +62,13 @@ module _ (w : Decoder) (r : w .rate ≤ rateMost) (e : decoderInBounds w ≡ tru
 
   pub decoder-line-refused : restoreNumber true LETTER-E (decoderLine w) ≡ otherKind
   decoder-line-refused = other-kind LETTER-D (w .rate) (w .start) (w .position) (w .filters) r e refl LETTER-E refl
+
+module _ (s : Decoder) (text : List ℕ) (e : decoderInBounds s ≡ true) where
+  pub decoder-malformed : (decoderRestoreAnswer s text .number ≡ malformed) ↔ (WellFormed numberCount text → ⊥)
+  decoder-malformed =
+      rw (number-is decoderReply decoderAt (λ (a : DecoderAnswer). a .number) (λ n c t. refl) (decoderInBounds s) LETTER-D s text, e)
+      (malformed-text LETTER-D text)
+
+  pub decoder-restored-in : decoderInBounds (decoderRestoreAnswer s text .session) ≡ true
+  decoder-restored-in =
+      rw e (restored-holds decoderReply decoderAt (λ a. decoderInBounds (a .session) ≡ true) (λ rate start position f i. i) LETTER-D s text (λ n. e))
