@@ -1,13 +1,27 @@
 -- Whatever was done with it, a session stands where one unbroken run over its history stands.
-use Prim.Native.Nat.{ℕ}
+use Prim.Native.Nat.{ℕ, _≤_}
+use native.Mathlib.Omega.{arith}
 use mathlib.Core.Path.{_≡_, refl, sym, ap, ap₂, _∙_}
 use mathlib.Core.List.{List, [], _++_, append-assoc, append-nil}
-use lib.ListN.{length}
+use lib.ListN.{length, replicate, length-replicate}
 use Rattle.life.specs.Kind.{Kind, Reply}
-use Rattle.life.specs.Life.{fresh, StandsFor, Call, coded, code-refused, wrote, restore-refused, Calls, still, further}
-use Rattle.life.specs.Life.{Life, begun, begin-refused, called, restored, Workers, none, next}
+use Rattle.life.specs.Life.{fresh, markBy, StandsFor, Call, coded, code-refused, wrote, restore-refused, Calls, still, further}
+use Rattle.life.specs.Life.{Life, begun, begin-refused, called, restored, Worker, Workers, none, next}
 use Rattle.life.specs.Unbroken.{doneWith, Unbroken, Histories}
 use Rattle.life.proofs.Laws.{Laws}
+
+-- a buffer that holds every mark
+pub buffer : List ℕ
+buffer = replicate 512 0
+
+pub roomy : 512 ≤ length buffer
+unfolding buffer
+roomy = omega (arith, length-replicate 512 (let z : ℕ = 0 in z))
+
+-- the mark that a session writes stands for its history
+pub stands-by : {k : Kind} {s : k .Session} {rate start : ℕ} {h : List (k .Item)} → Life k s rate start h → (out : List ℕ)
+    → k .write s (length out) .number ≡ 0 → StandsFor k (markBy k s out) rate start h
+stands-by {s = s} f out e = record { writer = s; lived = f; out = out; done = e; text = refl }
 
 module _ (k : Kind) (l : Laws k) where
   -- t is where the run from s over xs stands, and ys is what that run gives out
@@ -90,6 +104,25 @@ module _ (k : Kind) (l : Laws k) where
             rw (m .text) (l .round-trip s (m .writer) (m .out) b (w .in-bounds) (m .done) ∙ ap doneWith (w .session));
       }
 
+  -- it restores its own mark
+  goes-on : {s end : k .Session} {rate start : ℕ} {h piece : List (k .Item)} {ys : List (k .Out)} → Life k s rate start h
+      → Calls k s piece ys end → Worker k rate start h piece ys
+  goes-on {s} {end} {rate} {start} {h} f work =
+      let u = unbroken f in
+      let m = stands-by f buffer (u .writes (length buffer) roomy) in
+      let same : k .restore s (markBy k s buffer) .session ≡ s = ap (λ (a : Reply (k .Session)). a .session) (u .restores m) ∙ sym (u .session) in
+      record {
+        own = s;
+        own-rate = rate;
+        own-start = start;
+        own-history = h;
+        own-life = f;
+        line = markBy k s buffer;
+        stands = m;
+        end = end;
+        work = rw same work;
+      }
+
 -- a line that stands for a history gives whoever restores it that history
 pub restored-from : {k : Kind} {s : k .Session} {rate start rate′ start′ : ℕ} {h h′ : List (k .Item)} {line : List ℕ}
     → Life k s rate start h → StandsFor k line rate′ start′ h′ → Life k (k .restore s line .session) rate′ start′ h′
@@ -114,7 +147,7 @@ module _ (k : Kind) (l : Laws k) where
 
   -- THE THEOREM
   pub histories : Histories k
-  histories = record { unbroken = unbroken k l; workers = workers }
+  histories = record { unbroken = unbroken k l; goes-on = goes-on k l; workers = workers }
 
 -- the start of a life is one that begin takes, or 0
 pub started : {k : Kind} (P : ℕ → Type 0) → ((rate start : ℕ) → k .begin rate start .number ≡ 0 → P start) → P 0
