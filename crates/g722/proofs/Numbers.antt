@@ -18,7 +18,7 @@ use Rattle.g722.specs.Encoding.{encoderReply, encoderInBounds, encoderAf
 use Rattle.g722.specs.Decoding.{decoderReply, decoderInBounds, decoderAfter, decodedSamples, decodeNumber, decodeAnswer, decodeOut}
 
 -- a test that gives a number past 0 was not met where the number is 0
-pub passed : (t : Bool) (k rest : ℕ) → 0 < k → cond t k rest ≡ 0 → (t ≡ false) × (rest ≡ 0)
+passed : (t : Bool) (k rest : ℕ) → 0 < k → cond t k rest ≡ 0 → (t ≡ false) × (rest ≡ 0)
 passed true k rest h e = absurd (omega arith)
 passed false k rest h e = (refl, e)
 

@@ -5,7 +5,6 @@ use mathlib.Core.List.{List, _∷_, append-nil}
 use Prim.Native.Nat.{ℕ}
 use native.Mathlib.Omega.{arith}
 use lib.IntN.{ℤ}
-use lib.ListN.{length}
 use lib.Seq.{drop-length}
 use Rattle.text.specs.Ascii.{TAB}
 use Rattle.text.specs.Newline.{OneLine}

@@ -3,7 +3,6 @@ pub mod Inside
 pub mod Short
 pub mod Round
 pub mod Newline
-pub mod Never
 pub mod Restored
 pub mod Marks
 pub mod Examples

@@ -5,7 +5,7 @@ use mathlib.Core.Bool.{true}
 use mathlib.Core.List.{List}
 use mathlib.Core.Logic.{_↔_}
 use lib.ListN.{length, take}
-use Rattle.answers.specs.Numbers.{done, malformed, otherKind}
+use Rattle.answers.specs.Numbers.{done, malformed, otherKind, numberOutOfBounds}
 use Rattle.g722.specs.declared.Encoder.{Encoder}
 use Rattle.g722.specs.declared.EncoderAnswer.{EncoderAnswer}
 use Rattle.g722.specs.declared.Decoder.{Decoder}
@@ -40,12 +40,17 @@ module _ (w : Encoder) (r : w .rate ≤ rateMost) (e : encoderInBounds w ≡ tru
 module _ (s : Encoder) (text : List ℕ) (e : encoderInBounds s ≡ true) where
   pub encoder-malformed : (encoderRestoreAnswer s text .number ≡ malformed) ↔ (WellFormed numberCount text → ⊥)
   encoder-malformed =
-      rw (number-is encoderReply encoderAt (λ (a : EncoderAnswer). a .number) (λ n c t. refl) (encoderInBounds s) LETTER-E s text, e)
+      rw (number-is encoderReply encoderAt LETTER-E s text (λ (a : EncoderAnswer). a .number) (λ n c t. refl) (encoderInBounds s), e)
       (malformed-text LETTER-E text)
 
+  -- 0 with a session within its bounds, or 6, 7 or 8 with the one given
+  pub encoder-restored : (P : EncoderAnswer → Type 0) → ((t : Encoder) → encoderInBounds t ≡ true → P (encoderReply done 0 t))
+      → P (encoderReply malformed 0 s) → P (encoderReply otherKind 0 s) → P (encoderReply numberOutOfBounds 0 s) → P (encoderRestoreAnswer s text)
+  encoder-restored P made six seven eight =
+      rw e (restored-holds encoderReply encoderAt LETTER-E s text P (λ rate start position f i. made (encoderAt rate start position f) i) six seven eight)
+
   pub encoder-restored-in : encoderInBounds (encoderRestoreAnswer s text .session) ≡ true
-  encoder-restored-in =
-      rw e (restored-holds encoderReply encoderAt (λ a. encoderInBounds (a .session) ≡ true) (λ rate start position f i. i) LETTER-E s text (λ n. e))
+  encoder-restored-in = encoder-restored (λ a. encoderInBounds (a .session) ≡ true) (λ t i. i) e e e
 
 -- ---- decoders, likewise
 
@@ -66,9 +71,14 @@ module _ (w : Decoder) (r : w .rate ≤ rateMost) (e : decoderInBounds w ≡ tru
 module _ (s : Decoder) (text : List ℕ) (e : decoderInBounds s ≡ true) where
   pub decoder-malformed : (decoderRestoreAnswer s text .number ≡ malformed) ↔ (WellFormed numberCount text → ⊥)
   decoder-malformed =
-      rw (number-is decoderReply decoderAt (λ (a : DecoderAnswer). a .number) (λ n c t. refl) (decoderInBounds s) LETTER-D s text, e)
+      rw (number-is decoderReply decoderAt LETTER-D s text (λ (a : DecoderAnswer). a .number) (λ n c t. refl) (decoderInBounds s), e)
       (malformed-text LETTER-D text)
 
+  -- 0 with a session within its bounds, or 6, 7 or 8 with the one given
+  pub decoder-restored : (P : DecoderAnswer → Type 0) → ((t : Decoder) → decoderInBounds t ≡ true → P (decoderReply done 0 t))
+      → P (decoderReply malformed 0 s) → P (decoderReply otherKind 0 s) → P (decoderReply numberOutOfBounds 0 s) → P (decoderRestoreAnswer s text)
+  decoder-restored P made six seven eight =
+      rw e (restored-holds decoderReply decoderAt LETTER-D s text P (λ rate start position f i. made (decoderAt rate start position f) i) six seven eight)
+
   pub decoder-restored-in : decoderInBounds (decoderRestoreAnswer s text .session) ≡ true
-  decoder-restored-in =
-      rw e (restored-holds decoderReply decoderAt (λ a. decoderInBounds (a .session) ≡ true) (λ rate start position f i. i) LETTER-D s text (λ n. e))
+  decoder-restored-in = decoder-restored (λ a. decoderInBounds (a .session) ≡ true) (λ t i. i) e e e

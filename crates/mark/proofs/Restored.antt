@@ -1,20 +1,19 @@
--- What restoring answers whatever the text: 6 exactly where it is not well-formed, and always a session within its bounds.
+-- What restoring answers, whatever the text: 6 exactly where it is not well-formed; and a session within its bounds or the one given.
 use mathlib.Core.Path.{_≡_, refl, sym, _∙_}
 use mathlib.Core.Bool.{Bool, true, cond, not}
 use mathlib.Core.List.{List}
 use mathlib.Core.Logic.{_↔_}
 use Prim.Native.Nat.{ℕ}
 use native.Mathlib.Omega.{arith}
-use lib.Dec.{eqb, leb, lit<}
+use lib.Dec.{eqb, leb}
 use lib.IntN.{ℤ, pos, negsuc, natAbs}
 use lib.ListN.{length, getD, drop}
 use lib.Signed.{leZ, nonNeg}
-use borrow.Author.Tests.{eqb-true, ne-eqb, eq-eqb, not-false}
-use Rattle.answers.specs.Numbers.{done, malformed}
+use borrow.Author.Tests.{eqb-true, ne-eqb, eq-eqb}
+use Rattle.answers.specs.Numbers.{done, malformed, otherKind, numberOutOfBounds}
 use Rattle.band.specs.declared.Filters.{Filters}
 use Rattle.band.specs.Bounds.{filtersInBounds}
 use Rattle.g722.specs.Session.{positionMost, sessionInBounds}
-use Rattle.g722.proofs.Numbers.{passed}
 use Rattle.text.proofs.Tests.{Test, yes!, no!, test, both, false-is-true, either}
 use Rattle.line.specs.Letters.{LETTER-S}
 use Rattle.line.specs.Line.{plainTwo, readLine, lineNumbers, WellFormed}
@@ -57,48 +56,43 @@ below : (v : ℤ) (top : ℕ) → nonNeg v ≡ true → leZ v (pos top) ≡ true
 below (pos n) top p e = e
 below (negsuc n) top p e = false-is-true p
 
-module _ {S A : Type 0} (reply : ℕ → ℕ → S → A) (make : ℕ → ℕ → ℕ → Filters → S) where
-  -- what holds of the answer with any session within its bounds
-  module _ (P : A → Type 0)
-      (made : (rate start position : ℕ) (f : Filters) → sessionInBounds start position f ≡ true → P (reply done 0 (make rate start position f)))
+numbers-in : (letter : ℕ) (vs : List ℤ) → plainTwo vs ≡ true → numbersInBounds vs ≡ true
+    → sessionInBounds (startOf letter) (natAbs (getD vs 1 (pos 0))) (filtersOf (drop 2 vs)) ≡ true
+unfolding sessionInBounds plainTwo numbersInBounds
+numbers-in letter vs p e =
+    let position = getD vs 1 (pos 0) in
+    let tests = both (leZ (getD vs 0 (pos 0)) (pos rateMost)) _ e .1 in
+    let two = both (leZ position (pos positionMost)) (filtersInBounds (filtersOf (drop 2 vs))) tests in
+    rw (start-in letter, below position positionMost (both (nonNeg (getD vs 0 (pos 0))) (nonNeg position) p .1) (two .0), two .1)
+
+module _ {S A : Type 0} (reply : ℕ → ℕ → S → A) (make : ℕ → ℕ → ℕ → Filters → S) (kind : ℕ) (s : S) (text : List ℕ) where
+  -- what holds of 0 with any session within its bounds, and of 6, 7 and 8 with the session as given, holds of the answer
+  pub restored-holds : (P : A → Type 0)
+      → ((rate start position : ℕ) (f : Filters) → sessionInBounds start position f ≡ true → P (reply done 0 (make rate start position f)))
+      → P (reply malformed 0 s) → P (reply otherKind 0 s) → P (reply numberOutOfBounds 0 s) → P (restoreAnswer reply make true kind s text)
+  unfolding restoreNumber restoredSession restoreAnswer
+  restored-holds P made six seven eight = of-line (readLine numberCount text) refl
     where
-      said-holds : (letter : ℕ) (vs : List ℤ) → plainTwo vs ≡ true → numbersInBounds vs ≡ true
-          → P (reply done 0 (make (natAbs (getD vs 0 (pos 0))) (startOf letter) (natAbs (getD vs 1 (pos 0))) (filtersOf (drop 2 vs))))
-      unfolding sessionInBounds plainTwo numbersInBounds
-      said-holds letter vs p e =
-          let position = getD vs 1 (pos 0) in
-          let a = both (leZ (getD vs 0 (pos 0)) (pos rateMost)) _ e in
-          let b = both (leZ position (pos positionMost)) (filtersInBounds (filtersOf (drop 2 vs))) (a .1) in
-          let plain = both (nonNeg (getD vs 0 (pos 0))) (nonNeg position) p in
-          made _ _ _ _ (rw (start-in letter, below position positionMost (plain .1) (b .0), b .1))
+      vs : List ℤ
+      vs = lineNumbers numberCount text
 
-      text-holds : (kind : ℕ) (s : S) (text : List ℕ) (line : Line) → readLine numberCount text ≡ line
-          → textNumber kind (length text) (lineNumbers numberCount text) line ≡ 0
-          → P (reply done 0 (textSession make s (lineNumbers numberCount text) line))
-      text-holds kind s text Malformed r e = absurd (omega (arith, e))
-      text-holds kind s text (Sound k letter count) r e =
-          let a = passed (not (eqb count (length text))) 6 _ (lit< tt) e in
-          let b = passed (not (eqb k kind)) 7 _ (lit< tt) (a .1) in
-          let c = passed (not (numbersInBounds (lineNumbers numberCount text))) 8 0 (lit< tt) (b .1) in
-          said-holds letter _ (line-read numberCount text k letter count r .plain) (not-false _ (c .0))
+      Answered : Line → ℕ → Type 0
+      Answered line n = P (cond (eqb n done) (reply done 0 (textSession make s vs line)) (reply n 0 s))
 
-      -- holds of what restoring answers, done or refused
-      pub restored-holds : (kind : ℕ) (s : S) (text : List ℕ) → ((n : ℕ) → P (reply n 0 s)) → P (restoreAnswer reply make true kind s text)
-      unfolding restoreNumber restoredSession restoreAnswer
-      restored-holds kind s text same = go (test (eqb number done))
+      of-line : (line : Line) → readLine numberCount text ≡ line → Answered line (textNumber kind (length text) vs line)
+      of-line Malformed e = six
+      of-line (Sound k letter count) e =
+          either (Answered (Sound k letter count)) (not (eqb count (length text))) six
+          (either (Answered (Sound k letter count)) (not (eqb k kind)) seven (of-numbers (test (numbersInBounds vs))))
         where
-          number : ℕ
-          number = restoreNumber true kind text
+          of-numbers : Test (numbersInBounds vs) → Answered (Sound k letter count) (cond (not (numbersInBounds vs)) numberOutOfBounds done)
+          of-numbers (yes! i) = rw i (made _ _ _ _ (numbers-in letter vs (line-read numberCount text k letter count e .plain) i))
+          of-numbers (no! i) = rw i eight
 
-          go : Test (eqb number done) → P (cond (eqb number done) (reply done 0 (restoredSession make s text)) (reply number 0 s))
-          go (yes! e) = rw e (text-holds kind s text (readLine numberCount text) refl (eqb-true _ _ e))
-          go (no! e) = rw e (same number)
-
-  -- its number
-  pub number-is : (number : A → ℕ) → ((n c : ℕ) (s : S) → number (reply n c s) ≡ n) → (inside : Bool) (kind : ℕ) (s : S) (text : List ℕ)
+  pub number-is : (number : A → ℕ) → ((n c : ℕ) (t : S) → number (reply n c t) ≡ n) → (inside : Bool)
       → number (restoreAnswer reply make inside kind s text) ≡ restoreNumber inside kind text
   unfolding restoreAnswer
-  number-is number is inside kind s text = go (test (eqb (restoreNumber inside kind text) done))
+  number-is number is inside = go (test (eqb n done))
     where
       n : ℕ
       n = restoreNumber inside kind text
