@@ -68,7 +68,7 @@ pub decoder-stands : (rate start : ℕ) (h : List ℕ) → let s = decoderAfter 
 unfolding decoderAfter decoderBegun
 decoder-stands rate start h = (refl, omega arith)
 
-number-at : (rate start : ℕ) (h bs : List ℕ) (room : ℕ) → decoderInBounds (decoderAfter (fresh decoding rate start) h) ≡ true
+pub number-at : (rate start : ℕ) (h bs : List ℕ) (room : ℕ) → decoderInBounds (decoderAfter (fresh decoding rate start) h) ≡ true
     → decodeNumber (decoderAfter (fresh decoding rate start) h) (length bs) room ≡ decoding .numberAt rate h bs room
 unfolding decodeNumber
 number-at rate start h bs room e = let w = decoder-stands rate start h in rw (e, w .0, w .1)

@@ -71,7 +71,7 @@ pub encoder-stands : (rate start : ℕ) (h : List ℤ) → let s = encoderAfter 
 unfolding encoderAfter encoderBegun
 encoder-stands rate start h = (refl, omega arith)
 
-number-at : (rate start : ℕ) (h xs : List ℤ) (room : ℕ) → encoderInBounds (encoderAfter (fresh encoding rate start) h) ≡ true
+pub number-at : (rate start : ℕ) (h xs : List ℤ) (room : ℕ) → encoderInBounds (encoderAfter (fresh encoding rate start) h) ≡ true
     → encodeNumber (encoderAfter (fresh encoding rate start) h) (length xs) room ≡ encoding .numberAt rate h xs room
 unfolding encodeNumber
 number-at rate start h xs room e = let w = encoder-stands rate start h in rw (e, w .0, w .1)

@@ -10,13 +10,19 @@ use Rattle.life.specs.Life.{Life, begun, begin-refused, called, restored
 use Rattle.life.specs.Unbroken.{doneWith, Unbroken, Histories}
 use Rattle.life.proofs.Laws.{Laws}
 
--- a buffer that holds every mark
-pub buffer : List ℕ
-buffer = replicate 512 0
+-- a buffer of any length, and one that holds every mark
+pub zeros : ℕ → List ℕ
+zeros n = replicate n 0
+
+pub zeros-long : (n : ℕ) → length (zeros n) ≡ n
+unfolding zeros
+zeros-long n = length-replicate n _
+
+abbrev pub buffer : List ℕ
+buffer = zeros 512
 
 pub roomy : 512 ≤ length buffer
-unfolding buffer
-roomy = omega (arith, length-replicate 512 (let z : ℕ = 0 in z))
+roomy = omega (arith, zeros-long 512)
 
 -- the mark that a session writes stands for its history
 pub stands-by : {k : Kind} {s : k .Session} {rate start : ℕ} {h : List (k .Item)} → Life k s rate start h → (out : List ℕ)
