@@ -2,15 +2,11 @@
 -- start, their lines are restored to the same bands, whatever the two rates.
 use Prim.Native.Nat.{ℕ}
 use native.Mathlib.Omega.{arith}
-use mathlib.Core.Path.{_≡_}
 use mathlib.Core.List.{List, []}
 use lib.IntN.{ℤ}
 use Rattle.g722.proofs.Agree.{SameBands}
-use Rattle.life.specs.Kind.{Kind}
-use Rattle.life.specs.Life.{fresh, Life, begun, StandsFor}
+use Rattle.life.specs.Life.{begun}
 use Rattle.life.proofs.Unbroken.{restored-from}
-use Rattle.history.specs.Encoding.{encoding}
-use Rattle.history.specs.Decoding.{decoding}
 use Rattle.history.proofs.Bands as of-lives
 use Rattle.calls.specs.G722.{encoderOf, decoderOf}
 use Rattle.border.specs.Lines.{run, Line, Workers}

@@ -1,5 +1,5 @@
 -- The C calls of decoders keep what they owe.
-use Prim.Native.Nat.{ℕ, _+_, _*_, _/_, _≤_}
+use Prim.Native.Nat.{ℕ, _+_, _*_, _/_}
 use mathlib.Core.Path.{_≡_, refl, ap, _∙_}
 use mathlib.Core.Bool.{Bool, false, cond}
 use mathlib.Core.List.{List}
@@ -7,12 +7,11 @@ use lib.Dec.{ltb}
 use lib.IntN.{pos}
 use lib.ListN.{length, length-append}
 use Rattle.answers.specs.Numbers.{done, noRoom, positionPastEnd}
-use Rattle.answers.specs.Lent.{leaves}
 use Rattle.samples.specs.Bytes.{bytes}
 use Rattle.g722.specs.declared.Decoder.{Decoder}
 use Rattle.g722.specs.Rates.{decodeRoom, decoderMoves}
 use Rattle.g722.specs.Session.{positionMost}
-use Rattle.g722.specs.Decoding.{decoderBegun, decoderInBounds, decoderAfter, decodedSamples, decodeNumber}
+use Rattle.g722.specs.Decoding.{decoderBegun, decoderInBounds, decoderAfter, decodedSamples}
 use Rattle.g722.proofs.RateLaws.{decoder-moves-cut}
 use Rattle.g722.proofs.Cut.{decoded-length}
 use Rattle.text.proofs.Tests.{either}
@@ -23,12 +22,12 @@ use Rattle.mark.proofs.Round.{written-line}
 use Rattle.mark.proofs.Short.{line-short}
 use Rattle.mark.proofs.Newline.{decoder-one-line}
 use Rattle.life.specs.Kind.{Reply}
-use Rattle.life.specs.Life.{fresh, markBy}
+use Rattle.life.specs.Life.{fresh}
 use Rattle.life.specs.Unbroken.{doneWith}
 use Rattle.history.specs.Decoding.{decoding}
 use Rattle.history.proofs.Decoding.{decoder-stands, number-at}
 use Rattle.pieces.proofs.Lists.{bytes-cut, length-bytes}
-use Rattle.calls.specs.G722.{callNumber, beginCallNumber}
+use Rattle.calls.specs.G722.{callNumber}
 use Rattle.calls.specs.G722.{decoderOf, decodeCallNumber, decodeCallOut, decodeCallMark, decoderBeginNumber, decoderBeginMark}
 use Rattle.calls.specs.Answers.{OneOf, beginAnswers, decodeAnswers}
 use Rattle.calls.proofs.Answers.{decoder-begin-answers, decode-answers, never-2}
@@ -36,28 +35,6 @@ use Rattle.border.specs.Lines.{numberAt}
 use Rattle.border.specs.Decoding.{decoderCalls}
 use Rattle.border.proofs.Laws.{CallLaws}
 use Rattle.border.proofs.Numbers.{tests-in-order, two-bytes-each, start-begins}
-
-mark-is : (s : Decoder) (out : List ℕ) → decoding .write s (length out) .number ≡ 0 → markBy decoding s out ≡ decoderLine s
-unfolding writeAnswer
-mark-is s out e = rw e (written-line (decoderInBounds s) (decoderLine s) out e)
-
--- ---- beginning
-
-starts : (rate start : ℕ) → start ≤ 1 → decoding .begin rate start .number ≡ 0
-unfolding decoderBegun
-starts rate start h = start-begins start h
-
-begin-number : (rate start : ℕ) (mark : List ℕ)
-    → decoderBeginNumber rate start mark ≡ beginCallNumber (decoding .begin rate start .number) (decoderLine (fresh decoding rate start)) mark
-unfolding decoderBeginNumber
-begin-number rate start mark = refl
-
-begin-mark : (rate start : ℕ) (mark : List ℕ)
-    → decoderBeginMark rate start mark ≡ leaves (decoderBeginNumber rate start mark) (decoderLine (fresh decoding rate start)) mark
-unfolding decoderBeginMark
-begin-mark rate start mark = refl
-
--- ---- coding
 
 call-number-at : (rate : ℕ) (h input out next : List ℕ)
     → callNumber 0 false (decoding .numberAt rate h input (length out / 2)) (length next) ≡ numberAt decoderCalls rate h input out next
@@ -76,18 +53,6 @@ code-number line input out next rate start h e i =
     let s = ap (λ (r : Reply Decoder). r .session) e in
     rw (n, s, number-at rate start h input (length out / 2) (i .1))
 
-code-out : (line input out next : List ℕ) → decodeCallOut line input out next
-    ≡ leaves (decodeCallNumber line input out next)
-    (bytes (decodedSamples (decoding .restore (fresh decoding 16000 0) line .session) input)) out
-unfolding decodeCallOut decoderOf
-code-out line input out next = refl
-
-code-mark : (line input out next : List ℕ) → decodeCallMark line input out next
-    ≡ leaves (decodeCallNumber line input out next)
-    (decoderLine (decoderAfter (decoding .restore (fresh decoding 16000 0) line .session) input)) next
-unfolding decodeCallMark decoderOf
-code-mark line input out next = refl
-
 counted : (rate start : ℕ) (h input : List ℕ)
     → length (bytes (decodedSamples (decoderAfter (fresh decoding rate start) h) input)) ≡ 2 * decodeRoom rate (length input)
 counted rate start h input =
@@ -101,6 +66,7 @@ listed short past =
     either P short refl (either P past refl refl)
 
 pub decoderCallLaws : CallLaws decoderCalls
+unfolding decoderBeginNumber decoderBeginMark decoderOf decodeCallOut decodeCallMark writeAnswer decoderBegun
 decoderCallLaws = record {
   typed = λ input b. tt;
   bytes-none = refl;
@@ -109,18 +75,18 @@ decoderCallLaws = record {
   position-cut = decoder-moves-cut;
   listed = λ rate n. listed;
   lineOf = decoderLine;
-  mark-is = mark-is;
+  mark-is = λ s out e. rw e (written-line (decoderInBounds s) (decoderLine s) out e);
   one-line = decoder-one-line;
   line-short = λ s i. line-short LETTER-D (s .rate) (s .start) (s .position) (s .filters) (i .0) (i .1);
-  starts = starts;
-  begin-number = begin-number;
-  begin-mark = begin-mark;
+  starts = λ rate start h. start-begins start h;
+  begin-number = λ rate start mark. refl;
+  begin-mark = λ rate start mark. refl;
   half = λ input. false;
   room = λ n. n / 2;
   number-at = call-number-at;
   code-number = code-number;
-  code-out = code-out;
-  code-mark = code-mark;
+  code-out = λ line input out next. refl;
+  code-mark = λ line input out next. refl;
   counted = counted;
   begin-not-2 = λ rate start mark. never-2 beginAnswers _ refl (decoder-begin-answers rate start mark);
   not-2 = λ line input out next. never-2 decodeAnswers _ refl (decode-answers line input out next);

@@ -1,5 +1,5 @@
 -- The C calls of encoders keep what they owe.
-use Prim.Native.Nat.{ℕ, _+_, _/_, _%_, _≤_}
+use Prim.Native.Nat.{ℕ, _+_, _/_, _%_}
 use mathlib.Core.Path.{_≡_, refl, ap, _∙_}
 use mathlib.Core.Bool.{Bool, not, cond}
 use mathlib.Core.List.{List}
@@ -7,13 +7,12 @@ use lib.Dec.{eqb, ltb}
 use lib.IntN.{ℤ}
 use lib.ListN.{length, length-append}
 use Rattle.answers.specs.Numbers.{done, oddCount, noRoom, positionPastEnd}
-use Rattle.answers.specs.Lent.{leaves}
 use Rattle.samples.specs.Bytes.{samples}
 use Rattle.samples.proofs.Bytes.{length-samples}
 use Rattle.g722.specs.declared.Encoder.{Encoder}
 use Rattle.g722.specs.Rates.{encodeRoom, encoderMoves, oddAt}
 use Rattle.g722.specs.Session.{positionMost}
-use Rattle.g722.specs.Encoding.{encoderBegun, encoderInBounds, encoderAfter, encodedBytes, encodeNumber}
+use Rattle.g722.specs.Encoding.{encoderBegun, encoderInBounds, encoderAfter, encodedBytes}
 use Rattle.g722.proofs.Cut.{encoded-length}
 use Rattle.text.proofs.Tests.{either}
 use Rattle.line.specs.Letters.{LETTER-E}
@@ -23,12 +22,12 @@ use Rattle.mark.proofs.Round.{written-line}
 use Rattle.mark.proofs.Short.{line-short}
 use Rattle.mark.proofs.Newline.{encoder-one-line}
 use Rattle.life.specs.Kind.{Reply}
-use Rattle.life.specs.Life.{fresh, markBy}
+use Rattle.life.specs.Life.{fresh}
 use Rattle.life.specs.Unbroken.{doneWith}
 use Rattle.history.specs.Encoding.{encoding}
-use Rattle.history.proofs.Encoding.{encodingLaws, encoder-stands, number-at}
+use Rattle.history.proofs.Encoding.{encoder-stands, number-at}
 use Rattle.pieces.proofs.Lists.{samples-words}
-use Rattle.calls.specs.G722.{callNumber, beginCallNumber}
+use Rattle.calls.specs.G722.{callNumber}
 use Rattle.calls.specs.G722.{encoderOf, encodeCallNumber, encodeCallOut, encodeCallMark, encoderBeginNumber, encoderBeginMark}
 use Rattle.calls.specs.Answers.{OneOf, beginAnswers, encodeAnswers}
 use Rattle.calls.proofs.Answers.{encoder-begin-answers, encode-answers, never-2}
@@ -36,28 +35,6 @@ use Rattle.border.specs.Lines.{numberAt}
 use Rattle.border.specs.Encoding.{encoderCalls}
 use Rattle.border.proofs.Laws.{CallLaws}
 use Rattle.border.proofs.Numbers.{tests-in-order, start-begins}
-
-mark-is : (s : Encoder) (out : List ℕ) → encoding .write s (length out) .number ≡ 0 → markBy encoding s out ≡ encoderLine s
-unfolding writeAnswer
-mark-is s out e = rw e (written-line (encoderInBounds s) (encoderLine s) out e)
-
--- ---- beginning
-
-starts : (rate start : ℕ) → start ≤ 1 → encoding .begin rate start .number ≡ 0
-unfolding encoderBegun
-starts rate start h = start-begins start h
-
-begin-number : (rate start : ℕ) (mark : List ℕ)
-    → encoderBeginNumber rate start mark ≡ beginCallNumber (encoding .begin rate start .number) (encoderLine (fresh encoding rate start)) mark
-unfolding encoderBeginNumber
-begin-number rate start mark = refl
-
-begin-mark : (rate start : ℕ) (mark : List ℕ)
-    → encoderBeginMark rate start mark ≡ leaves (encoderBeginNumber rate start mark) (encoderLine (fresh encoding rate start)) mark
-unfolding encoderBeginMark
-begin-mark rate start mark = refl
-
--- ---- coding
 
 abbrev half : List ℕ → Bool
 half input = not (eqb (length input % 2) 0)
@@ -80,18 +57,6 @@ code-number line input out next rate start h e i =
     let s = ap (λ (r : Reply Encoder). r .session) e in
     rw (n, s, ← length-samples input, number-at rate start h (samples input) (length out) (i .1))
 
-code-out : (line input out next : List ℕ) → encodeCallOut line input out next
-    ≡ leaves (encodeCallNumber line input out next)
-    (encodedBytes (encoding .restore (fresh encoding 16000 0) line .session) (samples input)) out
-unfolding encodeCallOut encoderOf
-code-out line input out next = refl
-
-code-mark : (line input out next : List ℕ) → encodeCallMark line input out next
-    ≡ leaves (encodeCallNumber line input out next)
-    (encoderLine (encoderAfter (encoding .restore (fresh encoding 16000 0) line .session) (samples input))) next
-unfolding encodeCallMark encoderOf
-code-mark line input out next = refl
-
 counted : (rate start : ℕ) (h : List ℤ) (input : List ℕ)
     → length (encodedBytes (encoderAfter (fresh encoding rate start) h) (samples input)) ≡ encodeRoom rate (length input / 2)
 counted rate start h input =
@@ -105,7 +70,7 @@ listed rate n short past =
     either P (encoderCalls .odd rate n) refl (either P short refl (either P past refl refl))
 
 pub encoderCallLaws : CallLaws encoderCalls
-unfolding encoderMoves
+unfolding encoderMoves encoderBeginNumber encoderBeginMark encoderOf encodeCallOut encodeCallMark writeAnswer encoderBegun
 encoderCallLaws = record {
   typed = samples-words;
   bytes-none = refl;
@@ -114,18 +79,18 @@ encoderCallLaws = record {
   position-cut = λ rate m n. refl;
   listed = listed;
   lineOf = encoderLine;
-  mark-is = mark-is;
+  mark-is = λ s out e. rw e (written-line (encoderInBounds s) (encoderLine s) out e);
   one-line = encoder-one-line;
   line-short = λ s i. line-short LETTER-E (s .rate) (s .start) (s .position) (s .filters) (i .0) (i .1);
-  starts = starts;
-  begin-number = begin-number;
-  begin-mark = begin-mark;
+  starts = λ rate start h. start-begins start h;
+  begin-number = λ rate start mark. refl;
+  begin-mark = λ rate start mark. refl;
   half = half;
   room = λ n. n;
   number-at = call-number-at;
   code-number = code-number;
-  code-out = code-out;
-  code-mark = code-mark;
+  code-out = λ line input out next. refl;
+  code-mark = λ line input out next. refl;
   counted = counted;
   begin-not-2 = λ rate start mark. never-2 beginAnswers _ refl (encoder-begin-answers rate start mark);
   not-2 = λ line input out next. never-2 encodeAnswers _ refl (encode-answers line input out next);

@@ -2,17 +2,16 @@
 use Prim.Native.Nat.{ℕ, _≤_, _<_, _^_}
 use native.Mathlib.Omega.{arith}
 use mathlib.Core.Path.{_≡_, refl, sym, ap, subst, _∙_}
-use mathlib.Core.Bool.{Bool, true, false, not, cond, _||_}
+use mathlib.Core.Bool.{Bool, true, false, not, _||_}
 use mathlib.Core.List.{List, [], _∷_, _++_, append-assoc, append-nil}
 use lib.Dec.{eqb, ltb}
 use lib.ListN.{length, drop, replicate, length-replicate, length-append}
 use lib.Seq.{sets, take-at, drop-at}
 use borrow.Author.Tests.{ltb-false, le-ltb, ne-eqb, eqb-true, eqb-false, not-true, not-false}
-use Rattle.answers.specs.Numbers.{done, oddCount, noRoom, positionPastEnd}
+use Rattle.answers.specs.Numbers.{done, oddCount, noRoom}
 use Rattle.g722.specs.Session.{positionMost}
 use Rattle.g722.proofs.Written.{first-items}
 use Rattle.text.specs.Newline.{firstLine}
-use Rattle.text.proofs.Tests.{Test, yes!, no!, test, either}
 use Rattle.text.proofs.Newline.{first-line}
 use Rattle.life.specs.Kind.{Kind, Reply}
 use Rattle.life.specs.Life.{fresh, Life, StandsFor}
@@ -25,7 +24,7 @@ use Rattle.calls.specs.Answers.{OneOf}
 use Rattle.calls.proofs.Coded.{passed, Taken, taken}
 use Rattle.border.specs.Calls.{CCalls}
 use Rattle.border.specs.Lines.{Bytes, itemsOf, run, newLine, given, numberAt, Refused, begin, output, new-mark}
-use Rattle.border.specs.Lines.{Work, still, coded, refused, Line, Workers, none, then, Pieces, itemsIn}
+use Rattle.border.specs.Lines.{Work, still, coded, refused, Workers, none, then, Pieces, itemsIn}
 use Rattle.border.specs.Claims.{OneRun, Lines}
 use Rattle.border.proofs.Laws.{CallLaws}
 
