@@ -4,6 +4,7 @@ use native.Mathlib.Omega.{arith}
 use mathlib.Core.Path.{_≡_, refl, sym, ap, subst, _∙_}
 use mathlib.Core.Bool.{Bool, true, false, not, _||_}
 use mathlib.Core.List.{List, [], _∷_, _++_, append-assoc, append-nil}
+use mathlib.Core.Logic.{_↔_}
 use lib.Dec.{eqb, ltb}
 use lib.ListN.{length, drop, replicate, length-replicate, length-append}
 use lib.Seq.{sets, take-at, drop-at}
@@ -18,7 +19,7 @@ use Rattle.life.specs.Life.{fresh, Life, StandsFor}
 use Rattle.life.specs.Life as life
 use Rattle.life.specs.Unbroken.{doneWith, Histories}
 use Rattle.life.proofs.Laws.{Laws}
-use Rattle.life.proofs.Unbroken.{zeros, zeros-long, buffer, roomy, stands-by, histories}
+use Rattle.life.proofs.Unbroken.{zeros, zeros-long, buffer, roomy, stands-by, next-none, next-then, histories}
 use Rattle.calls.specs.G722.{beginCallNumber}
 use Rattle.calls.specs.Answers.{OneOf}
 use Rattle.calls.proofs.Coded.{passed, Taken, taken}
@@ -32,17 +33,16 @@ neither : (a b : Bool) → (a || b) ≡ false → a ≡ false
 neither true b e = e
 neither false b e = refl
 
--- beginning that is done
-begun-taken : (b : ℕ) (line mark : List ℕ) → beginCallNumber b line mark ≡ 0 → (b ≡ 0) × (length line ≤ length mark)
+-- when beginning is done
+begun-exactly : (b : ℕ) (line mark : List ℕ) → (beginCallNumber b line mark ≡ 0) ↔ ((b ≡ 0) × (length line ≤ length mark))
 unfolding beginCallNumber
-begun-taken b line mark e =
-    let p = passed (not (eqb b done)) b _ (λ t. eqb-false b done (not-true _ t)) e in
-    let q = passed (ltb (length mark) (length line)) noRoom done (λ t z. omega (arith, z)) (p .1) in
-    (eqb-true b done (not-false _ (p .0)), ltb-false _ _ (q .0))
-
-begun-by : (b : ℕ) (line mark : List ℕ) → b ≡ 0 → length line ≤ length mark → beginCallNumber b line mark ≡ 0
-unfolding beginCallNumber
-begun-by b line mark e h = rw (e, le-ltb (length mark) (length line) h)
+begun-exactly b line mark = (
+  λ e.
+      let p = passed (not (eqb b done)) b _ (λ t. eqb-false b done (not-true _ t)) e in
+      let q = passed (ltb (length mark) (length line)) noRoom done (λ t z. omega (arith, z)) (p .1) in
+      (eqb-true b done (not-false _ (p .0)), ltb-false _ _ (q .0)),
+  λ t. rw (t .0, le-ltb (length mark) (length line) (t .1)),
+)
 
 module _ {k : Kind} (l : Laws k) {c : CCalls k} (o : CallLaws c) where
   hs : Histories k
@@ -156,25 +156,22 @@ module _ {k : Kind} (l : Laws k) {c : CCalls k} (o : CallLaws c) where
 
   work-gives : {line end : List ℕ} {rate start : ℕ} {h xs : List (k .Item)} {ys : List ℕ} → StandsFor k line rate start h
       → Work c rate line xs ys end → run c rate start (h ++ xs) ≡ run c rate start h ++ ys
-  work-gives {rate = rate} {start} {h} m still = ap (run c rate start) (append-nil h) ∙ sym (append-nil (run c rate start h))
-  work-gives {rate = rate} {start} {h} m (coded {xs} {ys} {at} w input out next b e) =
-      ap (run c rate start) (sym (append-assoc h xs (itemsOf c input)))
-      ∙ gives (work-stands m w) input out next e b
-      ∙ ap (λ (v : List ℕ). v ++ given c rate at input out next) (work-gives m w)
-      ∙ append-assoc (run c rate start h) ys (given c rate at input out next)
+  work-gives {rate = rate} {start} {h} m still = next-none (run c rate start) h
+  work-gives {rate = rate} {start} {h} m (coded {xs} {ys} w input out next b e) =
+      next-then (run c rate start) h xs (itemsOf c input) ys _ (work-gives m w) (gives (work-stands m w) input out next e b)
   work-gives m (refused w r) = work-gives m w
 
   begun-stands : (rate start : ℕ) (mark : List ℕ) → rate < 2 ^ 32 → c .beginNumber rate start mark ≡ 0
       → StandsFor k (firstLine (c .beginMark rate start mark)) rate start []
   begun-stands rate start mark r e =
-      let t = begun-taken _ (o .lineOf (fresh k rate start)) mark (sym (o .begin-number rate start mark) ∙ e) in
+      let t = begun-exactly _ (o .lineOf (fresh k rate start)) mark .0 (sym (o .begin-number rate start mark) ∙ e) in
       stands-as (life.begun rate start r (t .0)) (ap firstLine (o .begin-mark rate start mark ∙ rw e) ∙ line-in (fresh k rate start) mark (t .1))
 
   begins : (rate start : ℕ) (mark : List ℕ) → start ≤ 1 → rate < 2 ^ 32 → 512 ≤ length mark → c .beginNumber rate start mark ≡ 0
   begins rate start mark s r h =
       let b = o .starts rate start s in
       let short = o .line-short (fresh k rate start) (hs .unbroken (life.begun rate start r b) .in-bounds) in
-      o .begin-number rate start mark ∙ begun-by _ (o .lineOf (fresh k rate start)) mark b (omega arith)
+      o .begin-number rate start mark ∙ begun-exactly _ (o .lineOf (fresh k rate start)) mark .1 (b, omega arith)
 
   line-is : {line : List ℕ} {rate start : ℕ} {h : List (k .Item)} → StandsFor k line rate start h
       → line ≡ o .lineOf (k .after (fresh k rate start) h)
@@ -184,12 +181,9 @@ module _ {k : Kind} (l : Laws k) {c : CCalls k} (o : CallLaws c) where
 
   workers-from : {rate start : ℕ} {before rest : List (k .Item)} {ys : List ℕ} → Workers c rate start before rest ys
       → run c rate start (before ++ rest) ≡ run c rate start before ++ ys
-  workers-from {rate} {start} (none {before}) = ap (run c rate start) (append-nil before) ∙ sym (append-nil (run c rate start before))
+  workers-from {rate} {start} (none {before}) = next-none (run c rate start) before
   workers-from {rate} {start} (then {before = before} {piece} {rest} {ys} {zs} m w ws) =
-      ap (run c rate start) (sym (append-assoc before piece rest))
-      ∙ workers-from ws
-      ∙ ap (λ (v : List ℕ). v ++ zs) (work-gives m w)
-      ∙ append-assoc (run c rate start before) ys zs
+      next-then (run c rate start) before piece rest ys zs (work-gives m w) (workers-from ws)
 
   workers : {rate start : ℕ} {recording : List (k .Item)} {ys : List ℕ} → Workers c rate start [] recording ys
       → ys ≡ run c rate start recording

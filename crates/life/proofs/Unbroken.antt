@@ -29,6 +29,15 @@ pub stands-by : {k : Kind} {s : k .Session} {rate start : ℕ} {h : List (k .Ite
     → k .write s (length out) .number ≡ 0 → StandsFor k (markBy k s out) rate start h
 stands-by {s = s} f out e = record { writer = s; lived = f; out = out; done = e; text = refl }
 
+-- what f gives of one list more: of none, and of two one after the other
+module _ {A B : Type 0} (f : List A → List B) where
+  pub next-none : (a : List A) → f (a ++ []) ≡ f a ++ []
+  next-none a = ap f (append-nil a) ∙ sym (append-nil (f a))
+
+  pub next-then : (a b d : List A) (y z : List B) → f (a ++ b) ≡ f a ++ y → f ((a ++ b) ++ d) ≡ f (a ++ b) ++ z
+      → f (a ++ (b ++ d)) ≡ f a ++ (y ++ z)
+  next-then a b d y z p q = ap f (sym (append-assoc a b d)) ∙ q ∙ ap (λ (v : List B). v ++ z) p ∙ append-assoc (f a) y z
+
 module _ (k : Kind) (l : Laws k) where
   -- t is where the run from s over xs stands, and ys is what that run gives out
   record Led (s : k .Session) (xs : List (k .Item)) (ys : List (k .Out)) (t : k .Session) : Type 0 where
@@ -137,14 +146,10 @@ restored-from f m = rw (m .text) (restored f (m .lived) (m .out) (m .done))
 module _ (k : Kind) (l : Laws k) where
   workers-from : {rate start : ℕ} {before rest : List (k .Item)} {ys : List (k .Out)} → Workers k rate start before rest ys
       → k .output (fresh k rate start) (before ++ rest) ≡ k .output (fresh k rate start) before ++ ys
-  workers-from {rate} {start} (none {before}) =
-      ap (k .output (fresh k rate start)) (append-nil before) ∙ sym (append-nil (k .output (fresh k rate start) before))
+  workers-from {rate} {start} (none {before}) = next-none (k .output (fresh k rate start)) before
   workers-from {rate} {start} (next {before} {piece} {rest} {ys} {zs} w ws) =
-      let f = fresh k rate start in
-      ap (k .output f) (sym (append-assoc before piece rest))
-      ∙ workers-from ws
-      ∙ ap (λ (v : List (k .Out)). v ++ zs) (later k l (restored-from (w .own-life) (w .stands)) (w .work))
-      ∙ append-assoc (k .output f before) ys zs
+      next-then (k .output (fresh k rate start)) before piece rest ys zs
+      (later k l (restored-from (w .own-life) (w .stands)) (w .work)) (workers-from ws)
 
   workers : {rate start : ℕ} {recording : List (k .Item)} {ys : List (k .Out)} → Workers k rate start [] recording ys
       → ys ≡ k .output (fresh k rate start) recording
