@@ -150,8 +150,9 @@ module _ {k : Kind} (l : Laws k) {c : CCalls k} (o : CallLaws c) where
   work-stands : {line end : List ℕ} {rate start : ℕ} {h xs : List (k .Item)} {ys : List ℕ} → StandsFor k line rate start h
       → Work c rate line xs ys end → StandsFor k end rate start (h ++ xs)
   work-stands {h = h} m still = rw (append-nil h) m
-  work-stands {h = h} m (coded {xs} w input out next b e) =
-      rw (← append-assoc h xs (itemsOf c input)) (new-stands (work-stands m w) input out next e b)
+  work-stands {rate = rate} {start} {h} m (coded {xs} {at = at} w input out next b e) =
+      subst (StandsFor k (newLine c at input out next) rate start) (append-assoc h xs (itemsOf c input))
+      (new-stands (work-stands m w) input out next e b)
   work-stands m (refused w r) = rw (refused-same r) (work-stands m w)
 
   work-gives : {line end : List ℕ} {rate start : ℕ} {h xs : List (k .Item)} {ys : List ℕ} → StandsFor k line rate start h
