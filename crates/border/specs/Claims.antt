@@ -15,7 +15,7 @@ use Rattle.border.specs.Lines.{Bytes, itemsOf, run, given, numberAt, Ref
 pub record OneRun {k : Kind} (c : CCalls k) (line : List ℕ) (rate start : ℕ) (h : List (k .Item)) : Type 0 where
   -- a call is done where evenness, both rooms and the position allow it, and refused where they do not
   pub answers : (input out next : List ℕ) → c .number line input out next ≡ numberAt c rate h input out next
-  -- and never for its line's sake: 6, 7 and 8 are not among these
+  -- the number is 0, 4 or 5, or for encoders 3; so never 1, 2, 6, 7 or 8
   pub listed : (input out next : List ℕ) → OneOf (c .codingAnswers) (c .number line input out next)
   -- a done call gives out what one run over the whole history gives out next, and keeps the rest of the output
   pub gives : (input out next : List ℕ) → Bytes input → c .number line input out next ≡ 0
@@ -24,9 +24,9 @@ pub record OneRun {k : Kind} (c : CCalls k) (line : List ℕ) (rate start : ℕ)
       → drop (c .count rate (length input)) (c .out line input out next) ≡ drop (c .count rate (length input)) out
 
 pub record Lines {k : Kind} (c : CCalls k) : Type 0 where
-  -- a caller's line is one that some session of that history wrote, so either door may take it up, C or Rattle
+  -- a caller's line is one that some session of that history wrote, so that C calls and Rattle sessions can both take it up
   pub stands : {line : List ℕ} {rate start : ℕ} {h : List (k .Item)} → Line c line rate start h → StandsFor k line rate start h
-  -- a line that stands for a history, a caller's or a session's, is of one run; and so is the line that work on it leads to
+  -- a line that stands for a history, a caller's or a session's, is of one run; and calls on it lead to a line that stands for more
   pub one-run : {line : List ℕ} {rate start : ℕ} {h : List (k .Item)} → StandsFor k line rate start h → OneRun c line rate start h
   pub leads : {line end : List ℕ} {rate start : ℕ} {h xs : List (k .Item)} {ys : List ℕ} → StandsFor k line rate start h
       → Work c rate line xs ys end → StandsFor k end rate start (h ++ xs)

@@ -46,27 +46,28 @@ pub data Refused {k : Kind} (c : CCalls k) : List ℕ → List ℕ → Type 0 wh
   output : (line input out next : List ℕ) → ¬ (c .number line input out next ≡ 0) → Refused c out (c .out line input out next)
   new-mark : (line input out next : List ℕ) → ¬ (c .number line input out next ≡ 0) → Refused c next (c .mark line input out next)
 
--- `Work c rate line xs ys end`: calls one after the other, from the line to the line `end`. In all they took xs and gave out ys.
+-- `Work c rate line xs ys end`: calls one after the other, from the line to the line `end`. In all they took xs and gave out ys. A call
+-- only reads the line that it is made on, so that line serves again where the call is refused.
 pub data Work {k : Kind} (c : CCalls k) (rate : ℕ) (line : List ℕ) : List (k .Item) → List ℕ → List ℕ → Type 0 where
   still : Work c rate line [] [] line
   -- a done call, of an input as long or as short as one likes, on the line of the calls before it
   coded : {xs : List (k .Item)} {ys at : List ℕ} → Work c rate line xs ys at
       → (input out next : List ℕ) → Bytes input → c .number at input out next ≡ 0
       → Work c rate line (xs ++ itemsOf c input) (ys ++ given c rate at input out next) (newLine c at input out next)
-  -- a refused call, for whatever reason: the line is found where it lay, in whichever buffer was lent
+  -- a refused call, on whatever line and for whatever reason: a buffer that was lent to it still holds the line that it held
   refused : {xs : List (k .Item)} {ys before after : List ℕ} → Work c rate line xs ys (firstLine before) → Refused c before after
       → Work c rate line xs ys (firstLine after)
 
--- `Line c line rate start h`: a caller began at the rate and the start, and calls led from that line to this one; they took h
+-- `Line c line rate start h`: a caller has the line by beginning at the rate and the start, which was done, and by calls after that; they took h
 pub record Line {k : Kind} (c : CCalls k) (line : List ℕ) (rate start : ℕ) (h : List (k .Item)) : Type 0 where
   pub rate-fits : rate < 2 ^ 32
   pub mark : List ℕ
   pub begun : c .beginNumber rate start mark ≡ 0
-  pub ys : List ℕ
-  pub work : Work c rate (firstLine (c .beginMark rate start mark)) h ys line
+  pub gave : List ℕ
+  pub work : Work c rate (firstLine (c .beginMark rate start mark)) h gave line
 
--- `Workers c rate start before rest ys`: each worker takes a line that stands for all before its piece, whoever wrote it (the first
--- begins), and takes its piece in; put one after the other they give out ys
+-- `Workers c rate start before rest ys`: after `before`, each worker has a line that stands for all before its piece (the first has a
+-- beginning's, the others whoever's), and its calls take the piece in; put one after the other they give out ys
 pub data Workers {k : Kind} (c : CCalls k) (rate start : ℕ) : List (k .Item) → List (k .Item) → List ℕ → Type 0 where
   none : {before : List (k .Item)} → Workers c rate start before [] []
   then : {line end : List ℕ} {before piece rest : List (k .Item)} {ys zs : List ℕ}
