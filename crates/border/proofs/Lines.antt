@@ -25,7 +25,7 @@ use Rattle.calls.specs.Answers.{OneOf}
 use Rattle.calls.proofs.Coded.{passed, Taken, taken}
 use Rattle.border.specs.Calls.{CCalls}
 use Rattle.border.specs.Lines.{Bytes, itemsOf, run, newLine, given, numberAt, Refused, begin, output, new-mark}
-use Rattle.border.specs.Lines.{Work, still, coded, refused, Workers, none, then, Pieces, itemsIn}
+use Rattle.border.specs.Lines.{Work, still, coded, refused, Line, Workers, none, then, Pieces, itemsIn}
 use Rattle.border.specs.Claims.{OneRun, Lines}
 use Rattle.border.proofs.Laws.{CallLaws}
 
@@ -174,6 +174,21 @@ module _ {k : Kind} (l : Laws k) {c : CCalls k} (o : CallLaws c) where
       let short = o .line-short (fresh k rate start) (hs .unbroken (life.begun rate start r b) .in-bounds) in
       o .begin-number rate start mark ∙ begun-exactly _ (o .lineOf (fresh k rate start)) mark .1 (b, omega arith)
 
+  from-nothing : (rate start : ℕ) {h : List (k .Item)} {ys : List ℕ} → run c rate start h ≡ run c rate start [] ++ ys → ys ≡ run c rate start h
+  from-nothing rate start {ys = ys} e =
+      sym (e ∙ ap (λ (v : List ℕ). v ++ ys) (ap (c .asBytes) (l .output-none (fresh k rate start)) ∙ o .bytes-none))
+
+  -- a caller's line
+  module _ {line : List ℕ} {rate start : ℕ} {h : List (k .Item)} (t : Line c line rate start h) where
+    first : StandsFor k (firstLine (c .beginMark rate start (t .mark))) rate start []
+    first = begun-stands rate start (t .mark) (t .rate-fits) (t .begun)
+
+    stands : StandsFor k line rate start h
+    stands = work-stands first (t .work)
+
+    gave : t .gave ≡ run c rate start h
+    gave = from-nothing rate start (work-gives first (t .work))
+
   line-is : {line : List ℕ} {rate start : ℕ} {h : List (k .Item)} → StandsFor k line rate start h
       → line ≡ o .lineOf (k .after (fresh k rate start) h)
   line-is m = m .text ∙ o .mark-is (m .writer) (m .out) (m .done) ∙ ap (o .lineOf) (hs .unbroken (m .lived) .session)
@@ -188,8 +203,7 @@ module _ {k : Kind} (l : Laws k) {c : CCalls k} (o : CallLaws c) where
 
   workers : {rate start : ℕ} {recording : List (k .Item)} {ys : List ℕ} → Workers c rate start [] recording ys
       → ys ≡ run c rate start recording
-  workers {rate} {start} {ys = ys} ws =
-      sym (workers-from ws ∙ ap (λ (v : List ℕ). v ++ ys) (ap (c .asBytes) (l .output-none (fresh k rate start)) ∙ o .bytes-none))
+  workers {rate} {start} ws = from-nothing rate start (workers-from ws)
 
   -- a worker for each piece: it takes the piece in one call, and hands its new line on
   module _ (rate start : ℕ) where
@@ -226,7 +240,8 @@ module _ {k : Kind} (l : Laws k) {c : CCalls k} (o : CallLaws c) where
   -- THE THEOREM
   pub lines : Lines c
   lines = record {
-    stands = λ t. work-stands (begun-stands _ _ (t .mark) (t .rate-fits) (t .begun)) (t .work);
+    stands = stands;
+    gave = gave;
     one-run = one-run;
     leads = work-stands;
     same-line = λ m n. line-is m ∙ sym (line-is n);

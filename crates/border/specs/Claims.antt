@@ -26,6 +26,8 @@ pub record OneRun {k : Kind} (c : CCalls k) (line : List ℕ) (rate start : ℕ)
 pub record Lines {k : Kind} (c : CCalls k) : Type 0 where
   -- a caller's line is one that some session of that history wrote, so that C calls and Rattle sessions can both take it up
   pub stands : {line : List ℕ} {rate start : ℕ} {h : List (k .Item)} → Line c line rate start h → StandsFor k line rate start h
+  -- all that the caller was given so far is one run over its history
+  pub gave : {line : List ℕ} {rate start : ℕ} {h : List (k .Item)} (t : Line c line rate start h) → t .gave ≡ run c rate start h
   -- a line that stands for a history, a caller's or a session's, is of one run; and calls on it lead to a line that stands for more
   pub one-run : {line : List ℕ} {rate start : ℕ} {h : List (k .Item)} → StandsFor k line rate start h → OneRun c line rate start h
   pub leads : {line end : List ℕ} {rate start : ℕ} {h xs : List (k .Item)} {ys : List ℕ} → StandsFor k line rate start h
