@@ -19,7 +19,7 @@ use Rattle.mark.specs.Marks.{encoderLine, encoderWriteAnswer, encoderWri
 use Rattle.mark.specs.Marks.{decoderLine, decoderWriteAnswer, decoderWriteOut, decoderRestoreAnswer}
 use Rattle.mark.proofs.Short.{writes}
 use Rattle.mark.proofs.Round.{other-kind, round-trip}
-use Rattle.mark.proofs.Restored.{malformed-text, restored-holds, number-is}
+use Rattle.mark.proofs.Restored.{restored-holds, malformed-text}
 
 module _ (w : Encoder) (r : w .rate ≤ rateMost) (e : encoderInBounds w ≡ true) where
   pub encoder-writes : (room : ℕ) → 512 ≤ room → encoderWriteAnswer w room .number ≡ done
@@ -39,15 +39,15 @@ module _ (w : Encoder) (r : w .rate ≤ rateMost) (e : encoderInBounds w ≡ tru
 -- s restores any text
 module _ (s : Encoder) (text : List ℕ) (e : encoderInBounds s ≡ true) where
   pub encoder-malformed : (encoderRestoreAnswer s text .number ≡ malformed) ↔ (WellFormed numberCount text → ⊥)
-  encoder-malformed =
-      rw (number-is encoderReply encoderAt LETTER-E s text (λ (a : EncoderAnswer). a .number) (λ n c t. refl) (encoderInBounds s), e)
-      (malformed-text LETTER-E text)
+  encoder-malformed = rw e (malformed-text encoderReply encoderAt LETTER-E s text (λ a. a .number) (λ n t. refl))
 
   -- 0 with a session within its bounds, or 6, 7 or 8 with the one given
   pub encoder-restored : (P : EncoderAnswer → Type 0) → ((t : Encoder) → encoderInBounds t ≡ true → P (encoderReply done 0 t))
       → P (encoderReply malformed 0 s) → P (encoderReply otherKind 0 s) → P (encoderReply numberOutOfBounds 0 s) → P (encoderRestoreAnswer s text)
   encoder-restored P made six seven eight =
-      rw e (restored-holds encoderReply encoderAt LETTER-E s text P (λ rate start position f i. made (encoderAt rate start position f) i) six seven eight)
+      rw e
+      (restored-holds encoderReply encoderAt LETTER-E s text P (λ rate start position f w i. made (encoderAt rate start position f) i)
+      (λ n. six) (λ w. seven) (λ w. eight))
 
   pub encoder-restored-in : encoderInBounds (encoderRestoreAnswer s text .session) ≡ true
   encoder-restored-in = encoder-restored (λ a. encoderInBounds (a .session) ≡ true) (λ t i. i) e e e
@@ -70,15 +70,15 @@ module _ (w : Decoder) (r : w .rate ≤ rateMost) (e : decoderInBounds w ≡ tru
 
 module _ (s : Decoder) (text : List ℕ) (e : decoderInBounds s ≡ true) where
   pub decoder-malformed : (decoderRestoreAnswer s text .number ≡ malformed) ↔ (WellFormed numberCount text → ⊥)
-  decoder-malformed =
-      rw (number-is decoderReply decoderAt LETTER-D s text (λ (a : DecoderAnswer). a .number) (λ n c t. refl) (decoderInBounds s), e)
-      (malformed-text LETTER-D text)
+  decoder-malformed = rw e (malformed-text decoderReply decoderAt LETTER-D s text (λ a. a .number) (λ n t. refl))
 
   -- 0 with a session within its bounds, or 6, 7 or 8 with the one given
   pub decoder-restored : (P : DecoderAnswer → Type 0) → ((t : Decoder) → decoderInBounds t ≡ true → P (decoderReply done 0 t))
       → P (decoderReply malformed 0 s) → P (decoderReply otherKind 0 s) → P (decoderReply numberOutOfBounds 0 s) → P (decoderRestoreAnswer s text)
   decoder-restored P made six seven eight =
-      rw e (restored-holds decoderReply decoderAt LETTER-D s text P (λ rate start position f i. made (decoderAt rate start position f) i) six seven eight)
+      rw e
+      (restored-holds decoderReply decoderAt LETTER-D s text P (λ rate start position f w i. made (decoderAt rate start position f) i)
+      (λ n. six) (λ w. seven) (λ w. eight))
 
   pub decoder-restored-in : decoderInBounds (decoderRestoreAnswer s text .session) ≡ true
   decoder-restored-in = decoder-restored (λ a. decoderInBounds (a .session) ≡ true) (λ t i. i) e e e
