@@ -26,17 +26,17 @@ use Rattle.calls.specs.G722.{callNumber, encoderOf, encodeCallNumber, en
 use Rattle.calls.specs.G722.{decoderOf, decodeCallNumber, decodeCallOut, decodeCallMark}
 
 -- a test whose number is not 0 was not met where the number is 0
-passed : (t : Bool) (k rest : ℕ) → (t ≡ true → k ≡ 0 → ⊥) → cond t k rest ≡ 0 → (t ≡ false) × (rest ≡ 0)
+pub passed : (t : Bool) (k rest : ℕ) → (t ≡ true → k ≡ 0 → ⊥) → cond t k rest ≡ 0 → (t ≡ false) × (rest ≡ 0)
 passed true k rest h e = absurd (h refl e)
 passed false k rest h e = (refl, e)
 
 -- what the tests say that were passed
-record Taken (restored : ℕ) (half : Bool) (coded room : ℕ) : Type 0 where
-  whole : half ≡ false
-  codes : coded ≡ done
-  roomy : 512 ≤ room
+pub record Taken (restored : ℕ) (half : Bool) (coded room : ℕ) : Type 0 where
+  pub whole : half ≡ false
+  pub codes : coded ≡ done
+  pub roomy : 512 ≤ room
 
-taken : (restored : ℕ) (half : Bool) (coded room : ℕ) → callNumber restored half coded room ≡ done → Taken restored half coded room
+pub taken : (restored : ℕ) (half : Bool) (coded room : ℕ) → callNumber restored half coded room ≡ done → Taken restored half coded room
 unfolding callNumber
 taken restored half coded room e =
     let a = passed (not (eqb restored done)) restored _ (λ t. eqb-false restored done (not-true _ t)) e in

@@ -1,3 +1,4 @@
 pub mod Begun
 pub mod Coded
+pub mod Answers
 pub mod Determined

@@ -1,1 +1,2 @@
 pub mod G722
+pub mod Answers

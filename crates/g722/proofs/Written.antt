@@ -15,7 +15,7 @@ use Rattle.g722.specs.Decoding.{decodedSamples, decodeNumber, decodeOut}
 use Rattle.g722.proofs.Numbers.{encode-taken, encode-done, decode-taken, decode-done}
 use Rattle.g722.proofs.Cut.{encoded-length, decoded-length}
 
-first-items : {A : Type 0} (items out : List A) (n : ℕ) → length items ≡ n → n ≤ length out → sets out 0 items ≡ items ++ drop n out
+pub first-items : {A : Type 0} (items out : List A) (n : ℕ) → length items ≡ n → n ≤ length out → sets out 0 items ≡ items ++ drop n out
 first-items items out n e h =
     let all : 0 + length items ≡ n = omega arith in
     sets-eq items out 0 (omega arith) ∙ rw all

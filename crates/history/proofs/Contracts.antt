@@ -27,7 +27,7 @@ use Rattle.history.specs.Encoding as E
 use Rattle.history.specs.Decoding as D
 
 -- whatever a contract allows, a claim holds of it; a are the arguments, z the result and e what is left in the outputs
-abbrev Says : (n : ℕ) (ps : List (PK n)) (r : RK n) → Out n ps r → Out n ps r → Type 0
+abbrev pub Says : (n : ℕ) (ps : List (PK n)) (r : RK n) → Out n ps r → Out n ps r → Type 0
 Says n ps r Post Claim =
     (κs : Lfts n) (a : Dens κs ps) (z : resT r κs .Denot) (e : AtExit (endedOf n ps r) κs) → Post κs a z e → Claim κs a z e
 

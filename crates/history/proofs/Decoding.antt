@@ -20,9 +20,8 @@ use Rattle.g722.proofs.Sound.{decoder-begun-in, decoder-answer-in}
 use Rattle.line.specs.Letters.{LETTER-D}
 use Rattle.mark.specs.Answer.{writeAnswer, restoreNumber, restoredSession, restoreAnswer}
 use Rattle.mark.specs.Marks.{decoderLine}
-use Rattle.mark.proofs.Never as never
-use Rattle.mark.proofs.Marks.{decoder-writes, decoder-round-trip}
-use Rattle.life.specs.Kind.{Reply}
+use Rattle.mark.proofs.Short as short
+use Rattle.mark.proofs.Marks.{decoder-writes, decoder-round-trip, decoder-restored}
 use Rattle.life.specs.Life.{fresh}
 use Rattle.life.proofs.Laws.{Laws}
 use Rattle.history.specs.Decoding.{replyOf, decoding}
@@ -70,7 +69,7 @@ pub decoder-stands : (rate start : ℕ) (h : List ℕ) → let s = decoderAfter 
 unfolding decoderAfter decoderBegun
 decoder-stands rate start h = (refl, omega arith)
 
-number-at : (rate start : ℕ) (h bs : List ℕ) (room : ℕ) → decoderInBounds (decoderAfter (fresh decoding rate start) h) ≡ true
+pub number-at : (rate start : ℕ) (h bs : List ℕ) (room : ℕ) → decoderInBounds (decoderAfter (fresh decoding rate start) h) ≡ true
     → decodeNumber (decoderAfter (fresh decoding rate start) h) (length bs) room ≡ decoding .numberAt rate h bs room
 unfolding decodeNumber
 number-at rate start h bs room e = let w = decoder-stands rate start h in rw (e, w .0, w .1)
@@ -89,8 +88,8 @@ unfolding restoreAnswer
 restore-is s text = answered-is decoderReply replyOf (λ number count t. refl) (restoreNumber (decoderInBounds s) LETTER-D text) _ _ s
 
 restore-not-2 : (s : Decoder) (text : List ℕ) → decoderInBounds s ≡ true → ¬ (decoding .restore s text .number ≡ 2)
-restore-not-2 s text i e =
-    never.restore-not-2 (decoderInBounds s) LETTER-D text i (sym (ap (λ (r : Reply Decoder). r .number) (restore-is s text)) ∙ e)
+restore-not-2 s text i =
+    decoder-restored s text i (λ a. ¬ (a .number ≡ 2)) (λ t j z. omega (arith, z)) (λ z. omega (arith, z)) (λ z. omega (arith, z)) (λ z. omega (arith, z))
 
 write-same : (s : Decoder) (room : ℕ) → decoding .write s room .session ≡ s
 unfolding writeAnswer
@@ -98,7 +97,7 @@ write-same s room = refl
 
 write-not-2 : (s : Decoder) (room : ℕ) → decoderInBounds s ≡ true → ¬ (decoding .write s room .number ≡ 2)
 unfolding writeAnswer
-write-not-2 s room e = never.write-not-2 (decoderInBounds s) (decoderLine s) room e
+write-not-2 s room e = short.write-not-2 (decoderInBounds s) (decoderLine s) room e
 
 -- ---- the run
 

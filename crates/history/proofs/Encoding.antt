@@ -24,9 +24,8 @@ use Rattle.g722.proofs.Sound.{encoder-begun-in, encoder-answer-in}
 use Rattle.line.specs.Letters.{LETTER-E}
 use Rattle.mark.specs.Answer.{writeAnswer, restoreNumber, restoredSession, restoreAnswer}
 use Rattle.mark.specs.Marks.{encoderLine}
-use Rattle.mark.proofs.Never as never
-use Rattle.mark.proofs.Marks.{encoder-writes, encoder-round-trip}
-use Rattle.life.specs.Kind.{Reply}
+use Rattle.mark.proofs.Short as short
+use Rattle.mark.proofs.Marks.{encoder-writes, encoder-round-trip, encoder-restored}
 use Rattle.life.specs.Life.{fresh}
 use Rattle.life.proofs.Laws.{Laws}
 use Rattle.history.specs.Encoding.{replyOf, encoding}
@@ -74,7 +73,7 @@ pub encoder-stands : (rate start : ℕ) (h : List ℤ) → let s = encoderAfter 
 unfolding encoderAfter encoderBegun
 encoder-stands rate start h = (refl, omega arith)
 
-number-at : (rate start : ℕ) (h xs : List ℤ) (room : ℕ) → encoderInBounds (encoderAfter (fresh encoding rate start) h) ≡ true
+pub number-at : (rate start : ℕ) (h xs : List ℤ) (room : ℕ) → encoderInBounds (encoderAfter (fresh encoding rate start) h) ≡ true
     → encodeNumber (encoderAfter (fresh encoding rate start) h) (length xs) room ≡ encoding .numberAt rate h xs room
 unfolding encodeNumber
 number-at rate start h xs room e = let w = encoder-stands rate start h in rw (e, w .0, w .1)
@@ -93,8 +92,8 @@ unfolding restoreAnswer
 restore-is s text = answered-is encoderReply replyOf (λ number count t. refl) (restoreNumber (encoderInBounds s) LETTER-E text) _ _ s
 
 restore-not-2 : (s : Encoder) (text : List ℕ) → encoderInBounds s ≡ true → ¬ (encoding .restore s text .number ≡ 2)
-restore-not-2 s text i e =
-    never.restore-not-2 (encoderInBounds s) LETTER-E text i (sym (ap (λ (r : Reply Encoder). r .number) (restore-is s text)) ∙ e)
+restore-not-2 s text i =
+    encoder-restored s text i (λ a. ¬ (a .number ≡ 2)) (λ t j z. omega (arith, z)) (λ z. omega (arith, z)) (λ z. omega (arith, z)) (λ z. omega (arith, z))
 
 write-same : (s : Encoder) (room : ℕ) → encoding .write s room .session ≡ s
 unfolding writeAnswer
@@ -102,7 +101,7 @@ write-same s room = refl
 
 write-not-2 : (s : Encoder) (room : ℕ) → encoderInBounds s ≡ true → ¬ (encoding .write s room .number ≡ 2)
 unfolding writeAnswer
-write-not-2 s room e = never.write-not-2 (encoderInBounds s) (encoderLine s) room e
+write-not-2 s room e = short.write-not-2 (encoderInBounds s) (encoderLine s) room e
 
 -- ---- the run
 

@@ -1,7 +1,7 @@
 -- However a recording is cut, there are workers for it: the theorem on workers speaks of something.
 use Prim.Native.Nat.{ℕ, _+_, _≤_, _<_, _^_}
 use native.Mathlib.Omega.{arith}
-use mathlib.Core.Path.{_≡_, refl}
+use mathlib.Core.Path.{_≡_}
 use mathlib.Core.List.{List, [], _∷_, _++_, flatten, append-assoc}
 use lib.IntN.{ℤ, pos}
 use lib.ListN.{length, replicate, length-replicate}
@@ -13,7 +13,7 @@ use Rattle.g722.specs.Decoding.{decoderBegun, decodedSamples}
 use Rattle.g722.proofs.Cut.{decode-moves-cut}
 use Rattle.life.specs.Life.{fresh, givenBy, markBy, coded, still, further, Life, begun, called, StandsFor}
 use Rattle.life.specs.Life.{Worker, Workers, none, next}
-use Rattle.life.proofs.Unbroken.{restored-from}
+use Rattle.life.proofs.Unbroken.{buffer, roomy, stands-by, restored-from}
 use Rattle.history.specs.Decoding.{decoding}
 use Rattle.history.proofs.Histories.{decoders}
 use Rattle.history.proofs.Sessions.{decoder-accepts}
@@ -39,21 +39,13 @@ module _ (rate start : ℕ) (r : rate < 2 ^ 32) (ok : decoding .begin rate start
       let long : length out ≡ room = length-replicate room (pos 0) in
       (out, decoder-accepts l bs (length out) (omega (arith, long)) (omega (arith, f, moves-cut h bs)))
 
-  buffer : List ℕ
-  buffer = replicate 512 0
-
-  roomy : 512 ≤ length buffer
-  unfolding buffer
-  roomy = omega (arith, length-replicate 512 (let z : ℕ = 0 in z))
-
   -- a line that stands for some bytes
   line-for : (bs : List ℕ) → Fits bs → (line : List ℕ) × StandsFor decoding line rate start bs
   line-for bs f =
       let a = reads first bs f in
       let w = decoding .code (fresh decoding rate start) bs (length (a .0)) .session in
       let l : Life decoding w rate start bs = called first (coded bs (a .0) tt (a .1)) in
-      let e = decoders .unbroken l .writes (length buffer) roomy in
-      (markBy decoding w buffer, record { writer = w; lived = l; out = buffer; done = e; text = refl })
+      (markBy decoding w buffer, stands-by l buffer (decoders .unbroken l .writes (length buffer) roomy))
 
   worker : (before piece : List ℕ) → Fits (before ++ piece) → (ys : List ℤ) × Worker decoding rate start before piece ys
   worker before piece f =

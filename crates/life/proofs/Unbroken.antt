@@ -1,13 +1,42 @@
 -- Whatever was done with it, a session stands where one unbroken run over its history stands.
-use Prim.Native.Nat.{ℕ}
+use Prim.Native.Nat.{ℕ, _≤_}
+use native.Mathlib.Omega.{arith}
 use mathlib.Core.Path.{_≡_, refl, sym, ap, ap₂, _∙_}
 use mathlib.Core.List.{List, [], _++_, append-assoc, append-nil}
-use lib.ListN.{length}
+use lib.ListN.{length, replicate, length-replicate}
 use Rattle.life.specs.Kind.{Kind, Reply}
-use Rattle.life.specs.Life.{fresh, StandsFor, Call, coded, code-refused, wrote, restore-refused, Calls, still, further}
-use Rattle.life.specs.Life.{Life, begun, begin-refused, called, restored, Workers, none, next}
+use Rattle.life.specs.Life.{fresh, markBy, StandsFor, Call, coded, code-refused, wrote, restore-refused, Calls, still, further}
+use Rattle.life.specs.Life.{Life, begun, begin-refused, called, restored, Worker, Workers, none, next}
 use Rattle.life.specs.Unbroken.{doneWith, Unbroken, Histories}
 use Rattle.life.proofs.Laws.{Laws}
+
+-- a buffer of any length, and one that holds every mark
+pub zeros : ℕ → List ℕ
+zeros n = replicate n 0
+
+pub zeros-long : (n : ℕ) → length (zeros n) ≡ n
+unfolding zeros
+zeros-long n = length-replicate n _
+
+abbrev pub buffer : List ℕ
+buffer = zeros 512
+
+pub roomy : 512 ≤ length buffer
+roomy = omega (arith, zeros-long 512)
+
+-- the mark that a session writes stands for its history
+pub stands-by : {k : Kind} {s : k .Session} {rate start : ℕ} {h : List (k .Item)} → Life k s rate start h → (out : List ℕ)
+    → k .write s (length out) .number ≡ 0 → StandsFor k (markBy k s out) rate start h
+stands-by {s = s} f out e = record { writer = s; lived = f; out = out; done = e; text = refl }
+
+-- what f gives of one list more: of none, and of two one after the other
+module _ {A B : Type 0} (f : List A → List B) where
+  pub next-none : (a : List A) → f (a ++ []) ≡ f a ++ []
+  next-none a = ap f (append-nil a) ∙ sym (append-nil (f a))
+
+  pub next-then : (a b d : List A) (y z : List B) → f (a ++ b) ≡ f a ++ y → f ((a ++ b) ++ d) ≡ f (a ++ b) ++ z
+      → f (a ++ (b ++ d)) ≡ f a ++ (y ++ z)
+  next-then a b d y z p q = ap f (sym (append-assoc a b d)) ∙ q ∙ ap (λ (v : List B). v ++ z) p ∙ append-assoc (f a) y z
 
 module _ (k : Kind) (l : Laws k) where
   -- t is where the run from s over xs stands, and ys is what that run gives out
@@ -90,6 +119,25 @@ module _ (k : Kind) (l : Laws k) where
             rw (m .text) (l .round-trip s (m .writer) (m .out) b (w .in-bounds) (m .done) ∙ ap doneWith (w .session));
       }
 
+  -- it restores its own mark
+  goes-on : {s end : k .Session} {rate start : ℕ} {h piece : List (k .Item)} {ys : List (k .Out)} → Life k s rate start h
+      → Calls k s piece ys end → Worker k rate start h piece ys
+  goes-on {s} {end} {rate} {start} {h} f work =
+      let u = unbroken f in
+      let m = stands-by f buffer (u .writes (length buffer) roomy) in
+      let same : k .restore s (markBy k s buffer) .session ≡ s = ap (λ (a : Reply (k .Session)). a .session) (u .restores m) ∙ sym (u .session) in
+      record {
+        own = s;
+        own-rate = rate;
+        own-start = start;
+        own-history = h;
+        own-life = f;
+        line = markBy k s buffer;
+        stands = m;
+        end = end;
+        work = rw same work;
+      }
+
 -- a line that stands for a history gives whoever restores it that history
 pub restored-from : {k : Kind} {s : k .Session} {rate start rate′ start′ : ℕ} {h h′ : List (k .Item)} {line : List ℕ}
     → Life k s rate start h → StandsFor k line rate′ start′ h′ → Life k (k .restore s line .session) rate′ start′ h′
@@ -98,14 +146,10 @@ restored-from f m = rw (m .text) (restored f (m .lived) (m .out) (m .done))
 module _ (k : Kind) (l : Laws k) where
   workers-from : {rate start : ℕ} {before rest : List (k .Item)} {ys : List (k .Out)} → Workers k rate start before rest ys
       → k .output (fresh k rate start) (before ++ rest) ≡ k .output (fresh k rate start) before ++ ys
-  workers-from {rate} {start} (none {before}) =
-      ap (k .output (fresh k rate start)) (append-nil before) ∙ sym (append-nil (k .output (fresh k rate start) before))
+  workers-from {rate} {start} (none {before}) = next-none (k .output (fresh k rate start)) before
   workers-from {rate} {start} (next {before} {piece} {rest} {ys} {zs} w ws) =
-      let f = fresh k rate start in
-      ap (k .output f) (sym (append-assoc before piece rest))
-      ∙ workers-from ws
-      ∙ ap (λ (v : List (k .Out)). v ++ zs) (later k l (restored-from (w .own-life) (w .stands)) (w .work))
-      ∙ append-assoc (k .output f before) ys zs
+      next-then (k .output (fresh k rate start)) before piece rest ys zs
+      (later k l (restored-from (w .own-life) (w .stands)) (w .work)) (workers-from ws)
 
   workers : {rate start : ℕ} {recording : List (k .Item)} {ys : List (k .Out)} → Workers k rate start [] recording ys
       → ys ≡ k .output (fresh k rate start) recording
@@ -114,7 +158,7 @@ module _ (k : Kind) (l : Laws k) where
 
   -- THE THEOREM
   pub histories : Histories k
-  histories = record { unbroken = unbroken k l; workers = workers }
+  histories = record { unbroken = unbroken k l; goes-on = goes-on k l; workers = workers }
 
 -- the start of a life is one that begin takes, or 0
 pub started : {k : Kind} (P : ℕ → Type 0) → ((rate start : ℕ) → k .begin rate start .number ≡ 0 → P start) → P 0

@@ -1,13 +1,13 @@
 -- What the claim rules out, whatever the calls are: a restore that ignores its text, and a coding call that writes anything but
 -- what the run gives out.
-use Prim.Native.Nat.{ℕ, _<_, _≤_, _^_}
-use native.Mathlib.Omega.{arith}
+use Prim.Native.Nat.{ℕ, _<_, _^_}
 use mathlib.Core.Path.{_≡_, sym, ap, _∙_}
 use mathlib.Core.List.{List, [], _++_}
-use lib.ListN.{length, replicate, length-replicate}
+use lib.ListN.{length}
 use Rattle.life.specs.Kind.{Kind}
 use Rattle.life.specs.Life.{fresh, givenBy, markBy, coded, Life, begun, restored, none}
 use Rattle.life.specs.Unbroken.{Histories}
+use Rattle.life.proofs.Unbroken.{buffer, roomy}
 
 module _ (k : Kind) (hs : Histories k) where
   -- a rate and a start that begin takes
@@ -16,13 +16,6 @@ module _ (k : Kind) (hs : Histories k) where
 
   first : {rate start : ℕ} → Begins rate start → Life k (fresh k rate start) rate start []
   first {rate} {start} b = begun rate start (b .0) (b .1)
-
-  buffer : List ℕ
-  buffer = replicate 512 0
-
-  roomy : 512 ≤ length buffer
-  unfolding buffer
-  roomy = omega (arith, length-replicate 512 (let z : ℕ = 0 in z))
 
   -- a mark of the session begun with one rate and start, restored into that begun with another
   moved : {rate start rate′ start′ : ℕ} → Begins rate start → Begins rate′ start′

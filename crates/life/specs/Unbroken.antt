@@ -4,7 +4,7 @@ use Prim.Native.Nat.{ℕ, _≤_}
 use mathlib.Core.Path.{_≡_}
 use mathlib.Core.List.{List, [], _++_}
 use Rattle.life.specs.Kind.{Kind, Reply}
-use Rattle.life.specs.Life.{fresh, Call, Life, StandsFor, Workers}
+use Rattle.life.specs.Life.{fresh, Call, Calls, Life, StandsFor, Worker, Workers}
 
 -- an answer that something is done, with nothing written
 abbrev pub doneWith : {S : Type 0} → S → Reply S
@@ -31,6 +31,9 @@ pub record Unbroken (k : Kind) (s : k .Session) (rate start : ℕ) (h : List (k 
 
 pub record Histories (k : Kind) : Type 0 where
   pub unbroken : {s : k .Session} {rate start : ℕ} {h : List (k .Item)} → Life k s rate start h → Unbroken k s rate start h
+  -- a session that merely goes on is a worker for what comes next; one just begun, for the piece after nothing
+  pub goes-on : {s end : k .Session} {rate start : ℕ} {h piece : List (k .Item)} {ys : List (k .Out)} → Life k s rate start h
+      → Calls k s piece ys end → Worker k rate start h piece ys
   -- cut a recording at will and give each piece to a worker: what they write, put one after the other, is what one run gives out
   pub workers : {rate start : ℕ} {recording : List (k .Item)} {ys : List (k .Out)} → Workers k rate start [] recording ys
       → ys ≡ k .output (fresh k rate start) recording

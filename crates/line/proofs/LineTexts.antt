@@ -18,7 +18,7 @@ use Rattle.text.specs.declared.fields.Ending.{Ending}
 use Rattle.text.specs.declared.fields.Ending.the-variants.{After, Faulty}
 use Rattle.text.proofs.Tests.{Test, yes!, no!, test, false-is-true, both}
 use Rattle.text.proofs.FieldTexts.{parted-is, fields-some, read-fields, fields-read}
-use Rattle.line.specs.Line.{lineText, kindLetter, startLetter, headed, plainTwo, unsigned, lineOf, readLine, lineNumbers, LineOf}
+use Rattle.line.specs.Line.{lineText, kindLetter, startLetter, headed, plainTwo, unsigned, lineOf, readLine, lineNumbers, LineOf, WellFormed}
 use Rattle.line.specs.declared.Line.{Line}
 use Rattle.line.specs.declared.Line.the-variants.{Sound, Malformed}
 
@@ -132,6 +132,13 @@ malformed-exactly n l = (never, λ e. none e (readLine n l) refl)
     none : ((k z : ℕ) (vs : List ℤ) (c : ℕ) → LineOf n l k z vs c → ⊥) → (x : Line) → readLine n l ≡ x → readLine n l ≡ Malformed
     none f Malformed e = e
     none f (Sound k z c) e = absurd (f k z (lineNumbers n l) c (line-read n l k z c e))
+
+-- all of a text is a line exactly where the line that is read takes all its bytes
+pub well-formed-exactly : (n : ℕ) (l : List ℕ) → WellFormed n l ↔ ((k z : ℕ) × (readLine n l ≡ Sound k z (length l)))
+well-formed-exactly n l = (
+  λ w. (w .kind, w .start, line-exactly n l (w .kind) (w .start) (w .numbers) (length l) .1 (w .whole) .0),
+  λ e. record { kind = e .0; start = e .1; numbers = lineNumbers n l; whole = line-read n l (e .0) (e .1) (length l) (e .2) },
+)
 
 -- a text begins with one line at most
 pub one-line : (n : ℕ) (l : List ℕ) (k z : ℕ) (vs : List ℤ) (c j y : ℕ) (ws : List ℤ) (d : ℕ) → LineOf n l k z vs c → LineOf n l j y ws d

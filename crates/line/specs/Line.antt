@@ -68,3 +68,10 @@ pub record LineOf (n : ℕ) (l : List ℕ) (kind start : ℕ) (vs : List ℤ) (c
   pub plain : plainTwo vs ≡ true
   pub counted : count ≡ length (lineText kind start vs)
   pub text : l ≡ lineText kind start vs ++ drop count l
+
+-- all of l is the line of two letters and n numbers in the grammar: nothing stands behind it
+pub record WellFormed (n : ℕ) (l : List ℕ) : Type 0 where
+  pub kind : ℕ
+  pub start : ℕ
+  pub numbers : List ℤ
+  pub whole : LineOf n l kind start numbers (length l)

@@ -2,7 +2,8 @@ pub mod Numbers
 pub mod Inside
 pub mod Short
 pub mod Round
-pub mod Never
+pub mod Newline
+pub mod Restored
 pub mod Marks
 pub mod Examples
 pub mod Casts

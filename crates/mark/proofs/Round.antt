@@ -1,13 +1,13 @@
 -- THE ROUND TRIP: the line of a session within its bounds, written at the front of a buffer and restored into any session of the same
 -- kind within its bounds, gives that session back, number for number.
-use Prim.Native.Nat.{ℕ, zero, suc, _+_, _≤_}
+use Prim.Native.Nat.{ℕ, zero, suc, _≤_}
 use native.Mathlib.Omega.{arith}
 use mathlib.Core.Path.{_≡_, refl, ap₂, _∙_}
 use mathlib.Core.Bool.{Bool, true, false, cond, not}
-use mathlib.Core.List.{List, [], _∷_, append-nil}
+use mathlib.Core.List.{List, [], _∷_, _++_, append-nil}
 use lib.IntN.{ℤ, pos}
 use lib.ListN.{length, take, drop, length-append}
-use lib.Seq.{sets-eq, take-append-seam}
+use lib.Seq.{take-append-seam}
 use lib.Dec.{eqb, ltb}
 use borrow.Author.Tests.{eq-eqb, le-leb, ltb-false}
 use Rattle.answers.specs.Numbers.{done, outOfBounds, noRoom, otherKind}
@@ -15,6 +15,7 @@ use Rattle.band.specs.declared.Filters.{Filters}
 use Rattle.band.specs.Bounds.{bandNumbers}
 use Rattle.band.proofs.Boxes.{words-join}
 use Rattle.g722.specs.Session.{positionMost, sessionInBounds}
+use Rattle.g722.proofs.Written.{first-items}
 use Rattle.text.specs.Fields.{AllShort}
 use Rattle.line.specs.Line.{kindLetter, startLetter, plainTwo, readLine, lineNumbers}
 use Rattle.line.specs.declared.Line.the-variants.{Sound}
@@ -94,13 +95,15 @@ room-enough true true z = absurd (omega (arith, z))
 room-enough true false z = refl
 room-enough false short z = absurd (omega (arith, z))
 
+pub written-front : (within : Bool) (line out : List ℕ) → writeNumber within line (length out) ≡ 0
+    → writeOut within line out ≡ line ++ drop (length line) out
+unfolding writeOut writeNumber
+written-front within line out z =
+    rw z (first-items line out _ refl (ltb-false _ _ (room-enough within (ltb (length out) (length line)) z)))
+
 pub written-line : (within : Bool) (line out : List ℕ) → writeNumber within line (length out) ≡ 0
     → take (length line) (writeOut within line out) ≡ line
-unfolding writeOut writeNumber
-written-line within line out z =
-    let room : length line ≤ length out = ltb-false _ _ (room-enough within (ltb (length out) (length line)) z) in
-    let none : 0 + length line ≡ length line = omega arith in
-    rw (z, sets-eq line out 0 (omega arith), none) (take-append-seam line (drop (length line) out))
+written-line within line out z = rw (written-front within line out z) (take-append-seam line (drop (length line) out))
 
 -- here: whether the session that restores is within its bounds
 pub round-trip : {S A : Type 0} (reply : ℕ → ℕ → S → A) (make : ℕ → ℕ → ℕ → Filters → S) (kind rate start position : ℕ) (f : Filters)

@@ -1,13 +1,14 @@
--- The line of a session within its bounds has at most 512 bytes, so that many hold it.
+-- The line of a session within its bounds has at most 512 bytes, so that many hold it; and writing it is never refused with 2.
 use Prim.Native.Nat.{ℕ, _≤_, _<_}
 use native.Mathlib.Omega.{arith}
 use mathlib.Core.Path.{_≡_, refl, ap₂, subst}
-use mathlib.Core.Bool.{true}
+use mathlib.Core.Bool.{Bool, true}
 use mathlib.Core.List.{List, [], _∷_, _++_}
 use lib.IntN.{ℤ, pos, negsuc, natAbs}
 use lib.ListN.{length}
+use lib.Dec.{ltb}
 use borrow.Author.Tests.{le-ltb}
-use Rattle.answers.specs.Numbers.{done}
+use Rattle.answers.specs.Numbers.{done, outOfBounds}
 use Rattle.fixed.specs.Number.{In}
 use Rattle.fixed.proofs.Signed.{abs-in, sz-in}
 use Rattle.band.specs.declared.Band.{Band}
@@ -15,6 +16,7 @@ use Rattle.band.specs.declared.Filters.{Filters}
 use Rattle.band.specs.Bounds.{allWords, bandNumbers}
 use Rattle.band.proofs.Boxes.{no-words, more-words, head-word, tail-words}
 use Rattle.g722.specs.Session.{sessionInBounds}
+use Rattle.text.proofs.Tests.{either}
 use Rattle.line.specs.Bounds.{AllWords}
 use Rattle.line.proofs.Longest.{bytes, band-le, line-le}
 use Rattle.mark.specs.Numbers.{filtersNumbers}
@@ -68,3 +70,8 @@ unfolding writeNumber
 writes kind rate start position f room r e h =
     let short : length (lineOf kind rate start position f) ≤ room = omega (arith, line-short kind rate start position f r e) in
     rw (e, le-ltb room (length (lineOf kind rate start position f)) short)
+
+pub write-not-2 : (within : Bool) (line : List ℕ) (room : ℕ) → within ≡ true → ¬ (writeNumber within line room ≡ outOfBounds)
+unfolding writeNumber
+write-not-2 within line room e =
+    rw e (either (λ n. ¬ (n ≡ outOfBounds)) (ltb room (length line)) (λ z. omega (arith, z)) (λ z. omega (arith, z)))

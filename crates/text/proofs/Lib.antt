@@ -6,3 +6,4 @@ pub mod Scan
 pub mod NumberTexts
 pub mod Signed
 pub mod FieldTexts
+pub mod Newline

@@ -1,6 +1,6 @@
 -- A test taken apart: it is true or false, and `a && b` is true where both are.
 use mathlib.Core.Path.{_≡_, refl}
-use mathlib.Core.Bool.{Bool, true, false, _&&_}
+use mathlib.Core.Bool.{Bool, true, false, cond, _&&_}
 use Prim.Native.Nat.{ℕ, _<_, _≤_}
 use native.Mathlib.Omega.{arith}
 use lib.Dec.{ltb}
@@ -32,3 +32,8 @@ below n bound = go (test (ltb n bound))
     go : Test (ltb n bound) → Below n bound
     go (yes! e) = small (ltb-true n bound e)
     go (no! e) = large (ltb-false n bound e)
+
+-- what holds of both holds of either
+pub either : {A : Type 0} (P : A → Type 0) (t : Bool) {a b : A} → P a → P b → P (cond t a b)
+either P true p q = p
+either P false p q = q

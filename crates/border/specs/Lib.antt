@@ -1,0 +1,5 @@
+pub mod Calls
+pub mod Encoding
+pub mod Decoding
+pub mod Lines
+pub mod Claims
