@@ -2,7 +2,7 @@
 ghost use mathlib.Core.Path.{_≡_};
 ghost use Rattle.answers.specs.Lent.{mapAnswer, mapOutput};
 ghost use Rattle.samples.specs.Lent.{toBytesAnswer, toBytesOutput};
-ghost use Rattle.lookup.specs.Values.{valueIn};
+ghost use Rattle.lookup.specs.Table.{valueIn};
 use answers::Answer;
 use answers::NO_ROOM;
 use answers::done;

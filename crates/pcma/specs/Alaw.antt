@@ -6,7 +6,7 @@ use lib.Bits.{bitXor}
 use lib.Dec.{leb, ltb}
 use lib.IntN.{ℤ, pos, negsuc, negℤ}
 use lib.Signed.{shrZ}
-use Rattle.samples.specs.Table.{from}
+use Rattle.lookup.specs.Table.{from}
 
 unfoldable pub ends : List ℕ
 ends = 31 ∷ 63 ∷ 127 ∷ 255 ∷ 511 ∷ 1023 ∷ 2047 ∷ 4095 ∷ []

@@ -3,7 +3,7 @@ use mathlib.Core.Bool.{cond}
 use mathlib.Core.Path.{_≡_, refl}
 use Prim.Native.Nat.{ℕ, _<_}
 use lib.Dec.{eqb}
-use Rattle.samples.proofs.Table.{agree}
+use Rattle.lookup.proofs.Table.{agree}
 use Rattle.pcmu.specs.Mulaw.{muByte, muValue}
 
 pub there-and-back : (b : ℕ) → b < 256 → muByte (muValue b) ≡ cond (eqb b 0x7F) 0xFF b

@@ -5,7 +5,7 @@ use Prim.Native.Nat.{ℕ, zero, suc, _+_, _-_, _*_, _/_, _%_, _^_, min}
 use lib.Dec.{leb, ltb}
 use lib.IntN.{ℤ, pos, negℤ, natAbs}
 use lib.Signed.{nonNeg}
-use Rattle.samples.specs.Table.{from}
+use Rattle.lookup.specs.Table.{from}
 
 abbrev pub signBit : ℤ → ℕ
 signBit z = cond (nonNeg z) 0 0x80

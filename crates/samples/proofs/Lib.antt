@@ -1,6 +1,5 @@
 pub mod Cond
 pub mod Sign
-pub mod Table
 pub mod Words
 pub mod Bytes
 pub mod Determined

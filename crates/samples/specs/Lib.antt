@@ -1,4 +1,3 @@
 pub mod Sign
 pub mod Bytes
-pub mod Table
 pub mod Lent

@@ -8,7 +8,7 @@ use mir.Facts.{toZ-ofZ}
 use borrow.Author.Needs.{needs}
 use borrow.Author.Tests.{lt-ltb, le-ltb}
 use Rattle.answers.proofs.Filling.{Mapping, no-turn, turn, last-turn}
-use Rattle.lookup.specs.Values.{valueIn}
+use Rattle.lookup.specs.Table.{valueIn}
 use Rattle.lookup.proofs.decode.Statement.{statement}
 use Rattle.lookup.proofs.decode.Tie as tie
 

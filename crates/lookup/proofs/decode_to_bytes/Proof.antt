@@ -9,7 +9,7 @@ use borrow.Author.Needs.{needs}
 use borrow.Author.Tests.{lt-ltb, le-ltb}
 use Rattle.samples.specs.Bytes.{bitsOf}
 use Rattle.samples.proofs.Bytes.{Pairing, no-turn, turn, last-turn}
-use Rattle.lookup.specs.Values.{valueIn}
+use Rattle.lookup.specs.Table.{valueIn}
 use Rattle.lookup.proofs.decode_to_bytes.Statement.{statement}
 use Rattle.lookup.proofs.decode_to_bytes.Tie as tie
 

@@ -4,7 +4,7 @@ use Prim.Native.Nat.{ℕ, _+_, _<_}
 use native.Mathlib.Omega.{arith}
 use lib.Bits.{bitOr}
 use lib.Count.{leadingZeros}
-use Rattle.samples.proofs.Table.{agree}
+use Rattle.lookup.proofs.Table.{agree}
 use Rattle.pcma.specs.Alaw.{ends, first}
 use Rattle.pcma.proofs.segment.Statement.{statement}
 use Rattle.pcma.proofs.segment.Tie as tie

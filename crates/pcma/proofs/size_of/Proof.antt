@@ -3,7 +3,7 @@ use mathlib.Core.Path.{_≡_, refl, ap, _∙_}
 use Prim.Native.Nat.{ℕ, zero, suc, _+_, _-_, _*_, _/_, _%_, _^_, _<_, _≤_}
 use native.Mathlib.Omega.{arith}
 use borrow.Author.Needs.{needs}
-use Rattle.samples.proofs.Table.{agree}
+use Rattle.lookup.proofs.Table.{agree}
 use Rattle.pcma.specs.Alaw.{aSize, sizeIn}
 use Rattle.pcma.proofs.size_of.Statement.{statement}
 use Rattle.pcma.proofs.size_of.Tie as tie

@@ -9,7 +9,7 @@ use lib.Signed.{nonNeg}
 use mir.Facts.{toZ-ofZ}
 use borrow.Author.Needs.{needs}
 use Rattle.samples.proofs.Cond.{cond-le}
-use Rattle.samples.proofs.Table.{entry}
+use Rattle.lookup.proofs.Table.{entry}
 use Rattle.pcmu.specs.Mulaw.{signBit, biased, highest, exponent, exponents, muByte}
 use Rattle.pcmu.proofs.byte_of.Statement.{statement}
 use Rattle.pcmu.proofs.byte_of.Tie as tie

@@ -18,12 +18,11 @@ down : (m : ℕ) → negsuc 0 -ℤ pos m ≡ negsuc m
 down zero = refl
 down (suc m) = ap (λ (k : ℕ). negsuc (suc k)) (zero-add m)
 
-module _ (lo hi : ℕ) (l : lo < 256) (h : hi < 256) where
-  turned : 32768 ≤ lo + 256 * hi → negsuc 0 -ℤ toZ w16 (65535 - (lo + 256 * hi)) ≡ sampleOf lo hi
-  turned high =
-      let n = lo + 256 * hi in
-      rw (toZ-pos w16 {n = 65535 - n} (omega arith), le-ltb n 32768 high, lt-ltb n 65536 (omega arith))
-      (down (65535 - n) ∙ ap negsuc (omega arith))
+turned : (lo hi : ℕ) → lo < 256 → hi < 256 → 32768 ≤ lo + 256 * hi → negsuc 0 -ℤ toZ w16 (65535 - (lo + 256 * hi)) ≡ sampleOf lo hi
+turned lo hi l h high =
+    let n = lo + 256 * hi in
+    rw (toZ-pos w16 {n = 65535 - n} (omega arith), le-ltb n 32768 high, lt-ltb n 65536 (omega arith))
+    (down (65535 - n) ∙ ap negsuc (omega arith))
 
 module _ (c : tie.Start) where
   low-byte : c .args .lo < 256
@@ -32,7 +31,7 @@ module _ (c : tie.Start) where
   high-byte : c .args .hi < 256
   high-byte = search needs
 
-  pub cast-is : toZ w16 (c .args .lo + 256 * c .args .hi) ≡ sampleOf (c .args .lo) (c .args .hi)
+  cast-is : toZ w16 (c .args .lo + 256 * c .args .hi) ≡ sampleOf (c .args .lo) (c .args .hi)
   cast-is = sym (sample-is _ _ low-byte high-byte)
 
   fits : SFits w16 (sampleOf (c .args .lo) (c .args .hi))
