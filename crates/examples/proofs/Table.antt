@@ -4,12 +4,12 @@ use mathlib.Core.Path.{_≡_, refl}
 use Prim.Native.Nat.{ℕ}
 use lib.IntN.{ℤ, pos, negsuc}
 use lib.ListN.{replicate}
-use Rattle.fixed.specs.Number.{clampZ, signedBy}
+use Rattle.fixed.specs.Number.{clampZ}
 use Rattle.band.specs.declared.Filters.{Filters}
 use Rattle.band.specs.Adapt.{SCALEL, SCALEH, lowUpdate, highUpdate}
 use Rattle.band.specs.Bounds.{allBetween, bandInBounds, filtersInBounds}
 use Rattle.band.specs.Fresh.{freshBand, freshFilters}
-use Rattle.band.specs.Quantise.{codeAt, first, magnitude, placeHigh}
+use Rattle.band.specs.Quantise.{codeAt, first, size, placeHigh}
 use Rattle.step.specs.Step.{decodeStep, encodeStep}
 use Rattle.pcmu.specs.Mulaw.{muByte}
 use Rattle.pcma.specs.Alaw.{aByte, aCode, aSize, aValue, ends, masked, signed}
@@ -50,7 +50,7 @@ pub encodings :
     ∷ encoded 1 (pos 0 ∷ pos 0 ∷ []) 1
     ∷ []
     ≡ (0xA0 ∷ []) ∷ (0xA0 ∷ 0xFC ∷ 0xFC ∷ []) ∷ (0x20 ∷ []) ∷ (0x04 ∷ []) ∷ (0xFA ∷ []) ∷ []
-unfolding encodeOut encodeNumber encodedBytes encoderBegun beginNumber startBegun freshAt freshFilters freshBand sessionInBounds filtersInBounds bandInBounds allBetween encodeRoom encoderMoves oddAt pairsAt doubled paired bytesOfPairs encodeStep lowUpdate highUpdate magnitude first codeAt placeHigh clampZ signedBy zipWith
+unfolding encodeOut encodeNumber encodedBytes encoderBegun beginNumber startBegun freshAt freshFilters freshBand sessionInBounds filtersInBounds bandInBounds allBetween encodeRoom encoderMoves oddAt pairsAt doubled paired bytesOfPairs encodeStep lowUpdate highUpdate size first codeAt placeHigh clampZ zipWith
 encodings = refl
 
 -- low nb, det, a1, a2; high nb, det
@@ -59,7 +59,7 @@ someNumbers f = f .low .nb ∷ f .low .det ∷ f .low .a1 ∷ f .low .a2 ∷ f .
 
 pub numbers-after-0-0 : someNumbers (encoderAfter (encoderBegun 16000 0 .session) (pos 0 ∷ pos 0 ∷ []) .filters)
     ≡ pos 3042 ∷ pos 88 ∷ pos 192 ∷ pos 128 ∷ pos 798 ∷ pos 8 ∷ []
-unfolding encoderAfter encoderBegun beginNumber startBegun freshAt freshFilters freshBand encoderMoves pairsAt doubled paired filtersAfterPairs encodeStep lowUpdate highUpdate magnitude first codeAt placeHigh clampZ signedBy zipWith
+unfolding encoderAfter encoderBegun beginNumber startBegun freshAt freshFilters freshBand encoderMoves pairsAt doubled paired filtersAfterPairs encodeStep lowUpdate highUpdate size first codeAt placeHigh clampZ zipWith
 numbers-after-0-0 = refl
 
 -- what a fresh decoder writes for bytes, likewise
@@ -73,5 +73,5 @@ pub decodings :
     ∷ decoded 16000 1 (0xFA ∷ []) 2
     ∷ []
     ≡ (pos 0 ∷ pos 0 ∷ pos 0 ∷ negsuc 0 ∷ []) ∷ (pos 0 ∷ pos 0 ∷ []) ∷ (pos 0 ∷ negsuc 0 ∷ []) ∷ []
-unfolding decodeOut decodeNumber decodedSamples decoderBegun beginNumber startBegun freshAt freshFilters freshBand sessionInBounds filtersInBounds bandInBounds allBetween decodeRoom decoderMoves keptAt keptOf pairsOfBytes decodeStep lowUpdate highUpdate magnitude first codeAt placeHigh clampZ signedBy zipWith
+unfolding decodeOut decodeNumber decodedSamples decoderBegun beginNumber startBegun freshAt freshFilters freshBand sessionInBounds filtersInBounds bandInBounds allBetween decodeRoom decoderMoves keptAt keptOf pairsOfBytes decodeStep lowUpdate highUpdate size first codeAt placeHigh clampZ zipWith
 decodings = refl

@@ -4,6 +4,7 @@ use mathlib.Core.Path.{_≡_, refl}
 use mathlib.Core.List.{List, [], _∷_}
 use lib.IntN.{ℤ}
 use Rattle.band.specs.declared.Filters.{Filters}
+use Rattle.band.specs.SameBands.{SameBands}
 use Rattle.step.specs.Step.{encodeStep, decodeStep}
 use Rattle.step.proofs.Laws.{steps-agree}
 use Rattle.g722.specs.declared.Encoder.{Encoder}
@@ -11,10 +12,6 @@ use Rattle.g722.specs.declared.Decoder.{Decoder}
 use Rattle.g722.specs.Runs.{Pair, pairsAt, filtersAfterPairs, bytesOfPairs, filtersAfterBytes}
 use Rattle.g722.specs.Encoding.{encoderBegun, encoderAfter, encodedBytes}
 use Rattle.g722.specs.Decoding.{decoderBegun, decoderAfter}
-
-pub record SameBands (f g : Filters) : Type 0 where
-  pub low : f .low ≡ g .low
-  pub high : f .high ≡ g .high
 
 pub runs-agree : (f g : Filters) (ps : List Pair) → SameBands f g
     → SameBands (filtersAfterPairs f ps) (filtersAfterBytes g (bytesOfPairs f ps))

@@ -5,10 +5,11 @@ use mathlib.Core.Path.{ap}
 use mathlib.Core.List.{List, []}
 use lib.IntN.{ℤ}
 use Rattle.band.specs.declared.Filters.{Filters}
+use Rattle.band.specs.SameBands.{SameBands}
 use Rattle.g722.specs.declared.Encoder.{Encoder}
 use Rattle.g722.specs.declared.Decoder.{Decoder}
 use Rattle.g722.specs.Encoding.{encodedBytes}
-use Rattle.g722.proofs.Agree.{SameBands, sessions-agree, begun-agree}
+use Rattle.g722.proofs.Agree.{sessions-agree, begun-agree}
 use Rattle.life.specs.Life.{fresh, Life, Workers}
 use Rattle.history.specs.Encoding.{encoding}
 use Rattle.history.specs.Decoding.{decoding}
