@@ -1,7 +1,7 @@
 -- The Bool of a range, and of a list of numbers, beside what is known of each number.
 use Prim.Native.Nat.{ℕ, zero, suc, _<_, _^_}
 use mathlib.Core.Bool.{Bool, true, false, _&&_, false≢true}
-use mathlib.Core.List.{List, [], _∷_, _++_, map, map-id, zipWith}
+use mathlib.Core.List.{List, [], _∷_, _++_, map, map-id}
 use denote.Array.{each}
 use denote.Shadow.{shadow}
 use denote.Signed.{SInt}
@@ -15,7 +15,7 @@ use mir.Val.{Val}
 use Rattle.fixed.specs.Number.{In, In16}
 use Rattle.fixed.proofs.Wide.{in16-of}
 use Rattle.band.specs.declared.Band.{Band}
-use Rattle.band.specs.Bounds.{between, allBetween, allWords, bandNumbers}
+use Rattle.band.specs.Bounds.{between, allBetween, allWords, numbers}
 
 truth : (b : Bool) → T b → b ≡ true
 truth true t = refl
@@ -74,12 +74,6 @@ words-take zero zs e = no-words
 words-take (suc n) [] e = e
 words-take (suc n) (z ∷ zs) e = more-words z (take n zs) (head-word z zs e) (words-take n zs (tail-words z zs e))
 
-pub words-zip : (f : ℤ → ℤ → ℤ) → ((a b : ℤ) → In16 (f a b)) → (xs ys : List ℤ) → allWords (zipWith f xs ys) ≡ true
-unfolding zipWith
-words-zip f g [] ys = no-words
-words-zip f g (x ∷ xs) [] = no-words
-words-zip f g (x ∷ xs) (y ∷ ys) = more-words (f x y) (zipWith f xs ys) (g x y) (words-zip f g xs ys)
-
 pub words-join : (xs ys : List ℤ) → allWords xs ≡ true → allWords ys ≡ true → allWords (xs ++ ys) ≡ true
 words-join [] ys e f = f
 words-join (z ∷ zs) ys e f = more-words z (zs ++ ys) (head-word z zs e) (words-join zs ys (tail-words z zs e) f)
@@ -93,21 +87,19 @@ array-words (x ∷ xs) (u ∷ us) p = more-words x xs (in16-of x (record { sfits
 pub field-words : (xs : List ℤ) (us : List Val) → shadow (each ℤ (SInt w16 .own) (map (λ (v : ℤ). v) xs) us) → allWords xs ≡ true
 field-words xs us p = array-words xs us (subst (λ (ys : List ℤ). shadow (each ℤ (SInt w16 .own) ys us)) (map-id xs) p)
 
--- ---- a band whose fields each fit
-abbrev Fits : ℤ → Type 0
-Fits z = mag z < 2 ^ 15
+-- ---- a band whose fields are each of 16 bits, and fit
+pub band-in : (k : Band)
+    → In16 (k .s) → In16 (k .sp) → In16 (k .sz) → In16 (k .r1) → In16 (k .r2) → In16 (k .a1) → In16 (k .a2) → In16 (k .p1) → In16 (k .p2)
+    → In16 (k .d1) → In16 (k .d2) → In16 (k .d3) → In16 (k .d4) → In16 (k .d5) → In16 (k .d6)
+    → In16 (k .b1) → In16 (k .b2) → In16 (k .b3) → In16 (k .b4) → In16 (k .b5) → In16 (k .b6)
+    → In16 (k .nb) → In16 (k .det)
+    → allWords (numbers k) ≡ true
+band-in k s sp sz r1 r2 a1 a2 p1 p2 d1 d2 d3 d4 d5 d6 b1 b2 b3 b4 b5 b6 nb det =
+    more-words _ _ s (more-words _ _ sp (more-words _ _ sz (more-words _ _ r1 (more-words _ _ r2 (
+    more-words _ _ a1 (more-words _ _ a2 (more-words _ _ p1 (more-words _ _ p2 (
+    more-words _ _ d1 (more-words _ _ d2 (more-words _ _ d3 (more-words _ _ d4 (more-words _ _ d5 (more-words _ _ d6 (
+    more-words _ _ b1 (more-words _ _ b2 (more-words _ _ b3 (more-words _ _ b4 (more-words _ _ b5 (more-words _ _ b6 (
+    more-words _ _ nb (more-words _ _ det no-words))))))))))))))))))))))
 
-more : (z : ℤ) (zs : List ℤ) → Fits z → allWords zs ≡ true → allWords (z ∷ zs) ≡ true
-more z zs h e = more-words z zs (in16-of z (record { sfits = h })) e
-
-pub band-words : (k : Band)
-    → Fits (k .s) → Fits (k .sp) → Fits (k .sz) → Fits (k .r1) → Fits (k .r2) → Fits (k .a1) → Fits (k .a2) → Fits (k .p1) → Fits (k .p2)
-    → Fits (k .d1) → Fits (k .d2) → Fits (k .d3) → Fits (k .d4) → Fits (k .d5) → Fits (k .d6)
-    → Fits (k .b1) → Fits (k .b2) → Fits (k .b3) → Fits (k .b4) → Fits (k .b5) → Fits (k .b6)
-    → Fits (k .nb) → Fits (k .det)
-    → allWords (bandNumbers k) ≡ true
-band-words k s sp sz r1 r2 a1 a2 p1 p2 d1 d2 d3 d4 d5 d6 b1 b2 b3 b4 b5 b6 nb det =
-    more _ _ s (more _ _ sp (more _ _ sz (more _ _ r1 (more _ _ r2 (more _ _ a1 (more _ _ a2 (more _ _ p1 (more _ _ p2 (
-    more _ _ d1 (more _ _ d2 (more _ _ d3 (more _ _ d4 (more _ _ d5 (more _ _ d6 (
-    more _ _ b1 (more _ _ b2 (more _ _ b3 (more _ _ b4 (more _ _ b5 (more _ _ b6 (
-    more _ _ nb (more _ _ det no-words))))))))))))))))))))))
+pub word-told : {z : ℤ} → mag z < 2 ^ 15 → In16 z
+word-told {z} h = in16-of z (record { sfits = h })

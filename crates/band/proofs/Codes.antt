@@ -12,7 +12,7 @@ use lib.Seq.{getD-drop, getD-take}
 use lib.Signed.{ltZ}
 use Rattle.fixed.proofs.Wide.{tableN}
 use Rattle.band.specs.Tables.{ILN, ILP, IHN, IHP}
-use Rattle.band.specs.Quantise.{QUANTH, QUANTL, codeAt, first, magnitude, placeHigh, placeLow}
+use Rattle.band.specs.Quantise.{QUANTH, QUANTL, codeAt, first, size, placeHigh, placeLow}
 
 -- ---- a code has what both tables have at its place
 of-both : (negative positive : List ℕ) (e : ℤ) (i : ℕ) (P : ℕ → Type 0)
@@ -25,10 +25,10 @@ of-both negative positive e i P p q = go (ltZ e (pos 0))
     go false = q
 
 pub quantl-most : (el det : ℤ) → QUANTL el det ≤ 63
-quantl-most el det = let i = placeLow (magnitude el) det in of-both ILN ILP el i (λ n. n ≤ 63) (tableN 63 ILN tt i) (tableN 63 ILP tt i)
+quantl-most el det = let i = placeLow (size el) det in of-both ILN ILP el i (λ n. n ≤ 63) (tableN 63 ILN tt i) (tableN 63 ILP tt i)
 
 pub quanth-most : (eh det : ℤ) → QUANTH eh det ≤ 3
-quanth-most eh det = let i = placeHigh (magnitude eh) det in of-both IHN IHP eh i (λ n. n ≤ 3) (tableN 3 IHN tt i) (tableN 3 IHP tt i)
+quanth-most eh det = let i = placeHigh (size eh) det in of-both IHN IHP eh i (λ n. n ≤ 3) (tableN 3 IHN tt i) (tableN 3 IHP tt i)
 
 -- ---- the low band never sends 0 to 3: its place is one of 1 to 30
 first-from : (test : ℕ → Bool) (n i : ℕ) → (i ≤ first test n i) × (first test n i ≤ i + n)
@@ -62,6 +62,6 @@ entry-least xs t n (suc i) h k =
 
 pub quantl-least : (el det : ℤ) → 4 ≤ QUANTL el det
 quantl-least el det =
-    let i = placeLow (magnitude el) det in
+    let i = placeLow (size el) det in
     let p = first-from _ 29 1 in
     of-both ILN ILP el i (λ n. 4 ≤ n) (entry-least ILN tt refl i (p .0) (p .1)) (entry-least ILP tt refl i (p .0) (p .1))

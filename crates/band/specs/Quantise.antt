@@ -12,9 +12,9 @@ use Rattle.band.specs.Tables.{Q6, ILN, ILP, IHN, IHP}
 abbrev pub SUBTRA : ℤ → ℤ → ℤ
 SUBTRA x s = sat (x -ℤ s)
 
--- e, or -(e + 1) of a negative one
-unfoldable pub magnitude : ℤ → ℤ
-magnitude e = cond (ltZ e (pos 0)) (negℤ (e +ℤ pos 1)) e
+-- e, or -(e + 1) where e is negative
+unfoldable pub size : ℤ → ℤ
+size e = cond (ltZ e (pos 0)) (negℤ (e +ℤ pos 1)) e
 
 -- the first of the n numbers i, i + 1, .. that passes the test, else i + n
 unfoldable pub first : (ℕ → Bool) → ℕ → ℕ → ℕ
@@ -29,16 +29,16 @@ below w det q = ltZ w (shrZ (q *ℤ det) 4096)
 unfoldable pub codeAt : List ℕ → List ℕ → ℤ → ℕ → ℕ
 codeAt negative positive e i = cond (ltZ e (pos 0)) (getD negative i 0) (getD positive i 0)
 
--- the place is the first of 1 to 29 whose level the magnitude is below, else 30
+-- the place is the first of 1 to 29 whose level the size is below, else 30
 abbrev pub placeLow : ℤ → ℤ → ℕ
 placeLow w det = first (λ (i : ℕ). below w det (getD Q6 i (pos 0))) 29 1
 
 abbrev pub QUANTL : ℤ → ℤ → ℕ
-QUANTL el det = codeAt ILN ILP el (placeLow (magnitude el) det)
+QUANTL el det = codeAt ILN ILP el (placeLow (size el) det)
 
 -- the high band has one level
 unfoldable pub placeHigh : ℤ → ℤ → ℕ
 placeHigh w det = cond (below w det (pos 564)) 1 2
 
 abbrev pub QUANTH : ℤ → ℤ → ℕ
-QUANTH eh det = codeAt IHN IHP eh (placeHigh (magnitude eh) det)
+QUANTH eh det = codeAt IHN IHP eh (placeHigh (size eh) det)

@@ -1,6 +1,7 @@
 // A band's record, and what both ends of G.722 do with it: quantisers, scale factors, and the predictor of block 4.
 mod adapt;
 mod block4;
+pub mod inverse;
 pub mod quantise;
 pub mod tables;
 pub mod update;
@@ -87,7 +88,7 @@ impl Band {
             b5: 0,
             b6: 0,
             nb: 0,
-            det: det,
+            det,
         }
     }
 
@@ -115,8 +116,8 @@ impl Filters {
         let high = Band::fresh(high_det);
         Self {
             x: [0; 24],
-            low: low,
-            high: high,
+            low,
+            high,
         }
     }
 

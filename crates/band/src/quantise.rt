@@ -5,10 +5,10 @@ ghost use mathlib.Core.Bool.{cond};
 ghost use lib.Signed.{ltZ};
 ghost use lib.IntN.{pos};
 ghost use Rattle.band.specs.Tables.{Q6, ILN, ILP, IHN, IHP};
-ghost use Rattle.band.specs.Quantise.{magnitude, placeLow, placeHigh, QUANTL, QUANTH};
+ghost use Rattle.band.specs.Quantise.{size, below, placeLow, placeHigh, QUANTL, QUANTH};
 
-fn magnitude_of(e: i16) -> i16
-    ensures { λ r. ⌜ r ≡ magnitude e ⌝ }
+fn size_of(e: i16) -> i16
+    ensures { λ r. ⌜ r ≡ size e ⌝ }
 {
     if e < 0 {
         return (-(e as i32 + 1)) as i16;
@@ -25,14 +25,20 @@ fn by_sign(e: i16, negative: u8, positive: u8) -> u8
     positive
 }
 
+// The size w is below the level q at the scale factor det.
+fn below(w: i16, q: i16, det: i16) -> bool
+    ensures { λ r. ⌜ r ≡ below w det q ⌝ }
+{
+    (w as i32) < (fixed::product(q, det) >> 12)
+}
+
 fn place_low(q6: &[i16; 32], w: i16, det: i16) -> usize
     requires { ⌜ now q6 ≡ Q6 ⌝ }
     ensures { λ r. ⌜ (r ≡ placeLow w det) × (r < 31) ⌝ }
 {
     let mut i: usize = 1;
     while i < 30 {
-        let q = q6[i];
-        if (w as i32) < ((q as i32 * det as i32) >> 12) {
+        if below(w, q6[i], det) {
             return i;
         }
         i += 1;
@@ -43,26 +49,26 @@ fn place_low(q6: &[i16; 32], w: i16, det: i16) -> usize
 fn place_high(w: i16, det: i16) -> usize
     ensures { λ r. ⌜ (r ≡ placeHigh w det) × (r < 3) ⌝ }
 {
-    if (w as i32) < ((564 * det as i32) >> 12) {
+    if below(w, 564, det) {
         return 1;
     }
     2
 }
 
-// The low band's six bits.
+// Block 1L, QUANTL: the low band's six bits.
 pub fn quantl(q6: &[i16; 32], iln: &[u8; 32], ilp: &[u8; 32], el: i16, det: i16) -> u8
     requires { ⌜ (now q6 ≡ Q6) × (now iln ≡ ILN) × (now ilp ≡ ILP) ⌝ }
     ensures { λ r. ⌜ r ≡ QUANTL el det ⌝ }
 {
-    let i = place_low(q6, magnitude_of(el), det);
+    let i = place_low(q6, size_of(el), det);
     by_sign(el, iln[i], ilp[i])
 }
 
-// The high band's two bits.
+// Block 1H, QUANTH: the high band's two bits.
 pub fn quanth(ihn: &[u8; 3], ihp: &[u8; 3], eh: i16, det: i16) -> u8
     requires { ⌜ (now ihn ≡ IHN) × (now ihp ≡ IHP) ⌝ }
     ensures { λ r. ⌜ r ≡ QUANTH eh det ⌝ }
 {
-    let i = place_high(magnitude_of(eh), det);
+    let i = place_high(size_of(eh), det);
     by_sign(eh, ihn[i], ihp[i])
 }

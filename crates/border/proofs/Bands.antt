@@ -4,7 +4,7 @@ use Prim.Native.Nat.{ℕ}
 use native.Mathlib.Omega.{arith}
 use mathlib.Core.List.{List, []}
 use lib.IntN.{ℤ}
-use Rattle.runs.specs.Same.{SameBands}
+use Rattle.band.specs.SameBands.{SameBands}
 use Rattle.life.specs.Life.{begun}
 use Rattle.life.proofs.Unbroken.{restored-from}
 use Rattle.history.proofs.Bands as of-lives

@@ -9,11 +9,11 @@ use lib.ListN.{replicate}
 use Rattle.answers.specs.declared.Answer.{Answer}
 use Rattle.answers.specs.Numbers.{done, oddCount, noRoom}
 use Rattle.answers.specs.Lent.{reply, mapAnswer, mapOutput}
-use Rattle.fixed.specs.Number.{clampZ, signedBy}
+use Rattle.fixed.specs.Number.{clampZ}
 use Rattle.band.specs.Adapt.{SCALEL, SCALEH, lowUpdate, highUpdate}
 use Rattle.band.specs.Bounds.{allBetween, bandInBounds, filtersInBounds}
 use Rattle.band.specs.Fresh.{freshBand, freshFilters}
-use Rattle.band.specs.Quantise.{codeAt, first, magnitude, placeHigh}
+use Rattle.band.specs.Quantise.{codeAt, first, size, placeHigh}
 use Rattle.step.specs.Step.{decodeStep, encodeStep}
 use Rattle.pcmu.specs.Mulaw.{muByte}
 use Rattle.pcma.specs.Alaw.{aByte, aCode, aSize, aValue, ends, masked, signed}
@@ -66,7 +66,7 @@ pub encodings :
     × (encoded 8000 0 (replicate 3 (pos 0)) 4 ≡ ((done, 3, 3), 0xA0 ∷ 0xFC ∷ 0xFC ∷ 7 ∷ []))
     × (encoded 16000 0 (replicate 3 (pos 0)) 4 ≡ ((oddCount, 0, 0), 7 ∷ 7 ∷ 7 ∷ 7 ∷ []))
     × (encoded 16000 0 (replicate 6 (pos 0)) 2 ≡ ((noRoom, 0, 0), 7 ∷ 7 ∷ []))
-unfolding encodeAnswer encodeOut encodeNumber encodedBytes encoderAfter encoderBegun beginNumber startBegun freshAt freshFilters freshBand sessionInBounds filtersInBounds bandInBounds allBetween encodeRoom encoderMoves oddAt pairsAt doubled paired bytesOfPairs filtersAfterPairs encodeStep lowUpdate highUpdate magnitude first codeAt placeHigh clampZ signedBy zipWith
+unfolding encodeAnswer encodeOut encodeNumber encodedBytes encoderAfter encoderBegun beginNumber startBegun freshAt freshFilters freshBand sessionInBounds filtersInBounds bandInBounds allBetween encodeRoom encoderMoves oddAt pairsAt doubled paired bytesOfPairs filtersAfterPairs encodeStep lowUpdate highUpdate size first codeAt placeHigh clampZ zipWith
 encodings = (refl, refl, refl, refl, refl, refl, refl, refl, refl)
 
 -- by rate, start, bytes and room
@@ -80,7 +80,7 @@ pub decodings :
     (decoded 16000 0 (0xA0 ∷ 0xFC ∷ []) 5 ≡ ((done, 4, 4), pos 0 ∷ pos 0 ∷ pos 0 ∷ negsuc 0 ∷ pos 7 ∷ []))
     × (decoded 8000 0 (0xA0 ∷ 0xFC ∷ []) 3 ≡ ((done, 2, 2), pos 0 ∷ pos 0 ∷ pos 7 ∷ []))
     × (decoded 16000 1 (0xFA ∷ []) 3 ≡ ((done, 2, 2), pos 0 ∷ negsuc 0 ∷ pos 7 ∷ []))
-unfolding decodeAnswer decodeOut decodeNumber decodedSamples decoderAfter decoderBegun beginNumber startBegun freshAt freshFilters freshBand sessionInBounds filtersInBounds bandInBounds allBetween decodeRoom decoderMoves keptAt keptOf pairsOfBytes filtersAfterBytes decodeStep lowUpdate highUpdate magnitude first codeAt placeHigh clampZ signedBy zipWith
+unfolding decodeAnswer decodeOut decodeNumber decodedSamples decoderAfter decoderBegun beginNumber startBegun freshAt freshFilters freshBand sessionInBounds filtersInBounds bandInBounds allBetween decodeRoom decoderMoves keptAt keptOf pairsOfBytes filtersAfterBytes decodeStep lowUpdate highUpdate size first codeAt placeHigh clampZ zipWith
 decodings = (refl, refl, refl)
 
 -- det of the least nb and of the greatest

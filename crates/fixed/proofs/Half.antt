@@ -1,16 +1,16 @@
 -- Numbers of 16 bits beside the definition's. `H m z`: m, what is passed or stored as an `i16`, is z.
 use Prim.Native.Nat.{ℕ, _<_, _≤_, _^_}
-use mathlib.Core.Bool.{Bool}
+use mathlib.Core.Bool.{Bool, cond}
 use mathlib.Core.List.{List}
 use mathlib.Core.Path.{_≡_, _∙_, refl, sym, subst}
 use lib.Dec.{T}
-use lib.IntN.{ℤ, pos}
+use lib.IntN.{ℤ, pos, negℤ}
 use lib.ListN.{getD}
 use lib.Signed.{mag, ltZ}
 use mir.Facts.{toZ-ofZ}
 use mir.Syntax.{w16, w32}
 use mir.Val.{SFits, toZ, ofZ}
-use Rattle.fixed.specs.Number.{minus, In, In16, Is, signedBy}
+use Rattle.fixed.specs.Number.{minus, In, In16, Is, sameSign, scaledBy, signedBy}
 use Rattle.fixed.proofs.Wide.{E, allIn, allLe, fits16-of, in-fits, in16-of, narrow-fits, ok, rd, read, table, tableN, var}
 
 pub record H (m z : ℤ) : Type 0 where
@@ -69,6 +69,13 @@ module _ {ℓ} {A : Type ℓ} {m1 z1 : ℤ} (e1 : H m1 z1) where
 
 pub signs : {m x a b n w : ℤ} → H m x → E a b n w → signedBy (rh m) (rd n) ≡ signedBy x w
 signs h e = λ i. signedBy (readh h i) (read e i)
+
+pub signs2 : {m x n y a b k w : ℤ} → H m x → H n y → E a b k w
+    → cond (sameSign (rh m) (rh n)) (rd k) (negℤ (rd k)) ≡ cond (sameSign x y) w (negℤ w)
+signs2 g h e = λ i. cond (sameSign (readh g i) (readh h i)) (read e i) (negℤ (read e i))
+
+pub scales : {m x a b n q : ℤ} → H m x → E a b n q → scaledBy (rh m) (rd n) ≡ scaledBy x q
+scales h e = λ i. scaledBy (readh h i) (read e i)
 
 -- ---- what a test of a number's sign tells
 pub negative : {z : ℤ} {b : Bool} → SFits w16 z → ltZ (rh z) (pos 0) ≡ b → ltZ z (pos 0) ≡ b

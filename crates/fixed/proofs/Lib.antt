@@ -1,4 +1,5 @@
 pub mod Signed
 pub mod Wide
 pub mod Half
+pub mod Signs
 pub mod Fits

@@ -70,6 +70,10 @@ module _ {a b m x : ℤ} (e : E a b m x) where
   pub to : {z : ℤ} → x ≡ z → E a b m z
   to p = record { is = e .is ∙ p; range = subst (In a b) p (e .range); fits = e .fits }
 
+  -- of what is equal to it
+  pub same : {r : ℤ} → r ≡ m → E a b r x
+  same p = record { is = p ∙ e .is; range = e .range; fits = subst (SFits w32) (sym p) (e .fits) }
+
   -- an argument, in what the callee ensures
   pub at1 {ℓ} : {A : Type ℓ} (f : ℤ → A) → f (rd m) ≡ f x
   at1 f = ap f (read e)

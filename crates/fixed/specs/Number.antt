@@ -1,8 +1,8 @@
 -- Ranges, saturation and signs of whole numbers. `shrZ z m` of `lib.Signed` is z / m, rounded down.
 use Prim.Native.Nat.{ℕ}
-use lib.IntN.{ℤ, pos, negℤ, _+ℤ_, _*ℤ_}
+use lib.IntN.{ℤ, pos, negsuc, negℤ, _+ℤ_, _*ℤ_}
 use lib.Signed.{ltZ, shrZ, _≤ℤ_}
-use mathlib.Core.Bool.{cond}
+use mathlib.Core.Bool.{Bool, true, false, cond}
 use mathlib.Core.Path.{_≡_}
 
 abbrev pub minus : ℕ → ℤ
@@ -28,10 +28,21 @@ clampZ lo hi v = cond (ltZ v lo) lo (cond (ltZ hi v) hi v)
 abbrev pub sat : ℤ → ℤ
 sat v = clampZ (minus 32768) (pos 32767) v
 
+-- 0 counts as positive
+abbrev pub sameSign : ℤ → ℤ → Bool
+sameSign (pos a) (pos b) = true
+sameSign (pos a) (negsuc b) = false
+sameSign (negsuc a) (pos b) = false
+sameSign (negsuc a) (negsuc b) = true
+
 -- w under the sign of x: -w where x is negative, else w
 unfoldable pub signedBy : ℤ → ℤ → ℤ
 signedBy x w = cond (ltZ x (pos 0)) (negℤ w) w
 
+-- a·q / 2^15 down
+abbrev pub scaledBy : ℤ → ℤ → ℤ
+scaledBy a q = shrZ (a *ℤ q) 32768
+
 -- one product of a filter: the coefficient c times twice x, over 2^15
 abbrev pub tapped : ℤ → ℤ → ℤ
-tapped c x = shrZ (c *ℤ sat (x +ℤ x)) 32768
+tapped c x = scaledBy c (sat (x +ℤ x))

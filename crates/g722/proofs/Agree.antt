@@ -4,7 +4,7 @@ use mathlib.Core.Path.{_≡_, refl}
 use mathlib.Core.List.{List}
 use lib.IntN.{ℤ}
 use Rattle.runs.specs.Runs.{pairsAt}
-use Rattle.runs.specs.Same.{SameBands}
+use Rattle.band.specs.SameBands.{SameBands}
 use Rattle.runs.proofs.Agree.{runs-agree}
 use Rattle.g722.specs.declared.Encoder.{Encoder}
 use Rattle.g722.specs.declared.Decoder.{Decoder}

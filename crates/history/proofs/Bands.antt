@@ -9,7 +9,7 @@ use Rattle.g722.specs.declared.Encoder.{Encoder}
 use Rattle.g722.specs.declared.Decoder.{Decoder}
 use Rattle.g722.specs.Encoding.{encodedBytes}
 use Rattle.g722.proofs.Agree.{sessions-agree, begun-agree}
-use Rattle.runs.specs.Same.{SameBands}
+use Rattle.band.specs.SameBands.{SameBands}
 use Rattle.life.specs.Life.{fresh, Life, Workers}
 use Rattle.history.specs.Encoding.{encoding}
 use Rattle.history.specs.Decoding.{decoding}

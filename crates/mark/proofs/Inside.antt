@@ -9,9 +9,10 @@ use borrow.Author.Tests.{leb-true, eqb-true}
 use Rattle.fixed.specs.Number.{In}
 use Rattle.band.specs.declared.Band.{Band}
 use Rattle.band.specs.declared.Filters.{Filters}
-use Rattle.band.specs.Bounds.{between, allWords, bandNumbers, bandInBounds, filtersInBounds}
+use Rattle.band.specs.Bounds.{between, allWords, bandInBounds, filtersInBounds}
 use Rattle.band.proofs.Boxes.{left, right, in-between}
 use Rattle.g722.specs.Session.{positionMost, sessionInBounds}
+use Rattle.mark.specs.Numbers.{bandNumbers}
 
 pub record BandInside (b : Band) (top : ℤ) : Type 0 where
   pub words : allWords (bandNumbers b) ≡ true

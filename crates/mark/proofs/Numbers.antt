@@ -6,8 +6,7 @@ use lib.ListN.{length, drop}
 use lib.Seq.{take-at, drop-at, drop-drop}
 use Rattle.band.specs.declared.Band.{Band}
 use Rattle.band.specs.declared.Filters.{Filters}
-use Rattle.band.specs.Bounds.{bandNumbers, bandOf}
-use Rattle.mark.specs.Numbers.{filtersNumbers, filtersOf}
+use Rattle.mark.specs.Numbers.{bandNumbers, bandOf, filtersNumbers, filtersOf}
 
 -- whatever follows a band's numbers
 band-before : (b : Band) (more : List ℤ) → bandOf (bandNumbers b ++ more) ≡ b

@@ -9,11 +9,11 @@ use lib.ListN.{length, take, drop, getD, set, length-drop, length-append}
 use lib.Seq.{sets, drop-cons, drop-drop}
 use Rattle.band.specs.declared.Band.{Band}
 use Rattle.band.specs.declared.Filters.{Filters}
-use Rattle.band.specs.Bounds.{allWords, bandNumbers, filtersInBounds, bandOf}
+use Rattle.band.specs.Bounds.{allWords, filtersInBounds}
 use Rattle.band.proofs.Boxes.{left, right}
 use Rattle.g722.specs.Session.{sessionInBounds}
 use Rattle.text.proofs.Buffer.{sets-append, sets-all}
-use Rattle.mark.specs.Numbers.{filtersOf}
+use Rattle.mark.specs.Numbers.{bandNumbers, bandOf, filtersOf}
 use Rattle.mark.specs.Answer.{numberCount}
 use Rattle.mark.proofs.Copies.{part}
 use Rattle.mark.proofs.Inside.{inside}

@@ -12,7 +12,6 @@ use lib.Dec.{eqb, ltb}
 use borrow.Author.Tests.{eq-eqb, le-leb, ltb-false}
 use Rattle.answers.specs.Numbers.{done, outOfBounds, noRoom, otherKind}
 use Rattle.band.specs.declared.Filters.{Filters}
-use Rattle.band.specs.Bounds.{bandNumbers}
 use Rattle.band.proofs.Boxes.{words-join}
 use Rattle.g722.specs.Session.{positionMost, sessionInBounds}
 use Rattle.g722.proofs.Written.{first-items}
@@ -21,7 +20,7 @@ use Rattle.line.specs.Line.{kindLetter, startLetter, plainTwo, readLine, lineNu
 use Rattle.line.specs.declared.Line.the-variants.{Sound}
 use Rattle.line.proofs.LineTexts.{read-line}
 use Rattle.line.proofs.Longest.{words-short}
-use Rattle.mark.specs.Numbers.{filtersNumbers}
+use Rattle.mark.specs.Numbers.{bandNumbers, filtersNumbers}
 use Rattle.mark.specs.Answer.{rateMost, numberCount, letterOf, startOf, lineOf, writeNumber, writeOut}
 use Rattle.mark.specs.Answer.{numbersInBounds, textSession, restoreNumber, restoredSession, restoreAnswer}
 use Rattle.mark.proofs.Numbers.{filters-back}

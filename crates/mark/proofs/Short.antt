@@ -13,13 +13,13 @@ use Rattle.fixed.specs.Number.{In}
 use Rattle.fixed.proofs.Signed.{abs-in, sz-in}
 use Rattle.band.specs.declared.Band.{Band}
 use Rattle.band.specs.declared.Filters.{Filters}
-use Rattle.band.specs.Bounds.{allWords, bandNumbers}
+use Rattle.band.specs.Bounds.{allWords}
 use Rattle.band.proofs.Boxes.{no-words, more-words, head-word, tail-words}
 use Rattle.g722.specs.Session.{sessionInBounds}
 use Rattle.text.proofs.Tests.{either}
 use Rattle.line.specs.Bounds.{AllWords}
 use Rattle.line.proofs.Longest.{bytes, band-le, line-le}
-use Rattle.mark.specs.Numbers.{filtersNumbers}
+use Rattle.mark.specs.Numbers.{bandNumbers, filtersNumbers}
 use Rattle.mark.specs.Answer.{rateMost, letterOf, lineOf, writeNumber}
 use Rattle.mark.proofs.Inside.{inside, BandInside}
 

@@ -8,8 +8,8 @@ ghost use Prim.Native.Nat.{_+_, _≤_};
 ghost use lib.IntN.{pos, negsuc};
 ghost use lib.ListN.{length, take, drop};
 ghost use lib.Seq.{sets};
-ghost use Rattle.band.specs.Bounds.{between, allWords, bandNumbers, filtersInBounds, bandOf};
-ghost use Rattle.mark.specs.Numbers.{filtersNumbers, filtersOf};
+ghost use Rattle.band.specs.Bounds.{between, allWords, filtersInBounds};
+ghost use Rattle.mark.specs.Numbers.{bandNumbers, bandOf, filtersNumbers, filtersOf};
 ghost use Rattle.mark.specs.Answer.{numberCount};
 
 // Where x and the bands begin among the numbers of a line, after rate and position.

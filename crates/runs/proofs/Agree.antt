@@ -4,7 +4,7 @@ use Rattle.band.specs.declared.Filters.{Filters}
 use Rattle.step.specs.Step.{encodeStep, decodeStep}
 use Rattle.step.proofs.Laws.{steps-agree}
 use Rattle.runs.specs.Runs.{Pair, filtersAfterPairs, bytesOfPairs, filtersAfterBytes}
-use Rattle.runs.specs.Same.{SameBands}
+use Rattle.band.specs.SameBands.{SameBands}
 
 pub runs-agree : (f g : Filters) (ps : List Pair) → SameBands f g
     → SameBands (filtersAfterPairs f ps) (filtersAfterBytes g (bytesOfPairs f ps))

@@ -1,3 +1,2 @@
 pub mod Rates
 pub mod Runs
-pub mod Same

@@ -7,14 +7,14 @@ use mathlib.Core.Bool.{true, _&&_}
 use mathlib.Core.List.{List, [], zipWith}
 use mathlib.Core.Path.{_≡_, sym, ap}
 use lib.Dec.{eqb}
-use lib.IntN.{ℤ, pos, _+ℤ_, _-ℤ_, _*ℤ_, zero-*ℤ}
+use lib.IntN.{ℤ, pos, _+ℤ_, _-ℤ_, zero-*ℤ}
 use lib.ListN.{length, drop, getD, length-append, length-drop, replicate}
 use lib.Signed.{shrZ}
-use Rattle.fixed.specs.Number.{minus, In, In16, clampZ}
+use Rattle.fixed.specs.Number.{minus, In, In16, clampZ, scaledBy}
 use Rattle.fixed.proofs.Signed.{clamp-in, within, in-add, in-neg}
 use Rattle.band.specs.declared.Filters.{Filters}
 use Rattle.band.specs.Tables.{QM6, QM2}
-use Rattle.band.specs.Bounds.{allWords, bandNumbers, bandInBounds, filtersInBounds}
+use Rattle.band.specs.Bounds.{lowNbMost, highNbMost, allWords, numbers, bandInBounds, filtersInBounds}
 use Rattle.band.specs.Fresh.{freshBand, freshFilters}
 use Rattle.band.specs.Quantise.{SUBTRA, QUANTL, QUANTH}
 use Rattle.band.specs.Adapt.{lowUpdate, highUpdate}
@@ -42,17 +42,17 @@ module _ (f : Filters) (w : filtersInBounds f ≡ true) where
   unfolding filtersInBounds
   of-x = left (eqb (length (f .x)) 24 && allWords (f .x)) _ w
 
-  of-bands : (bandInBounds (f .low) (pos 18432) && bandInBounds (f .high) (pos 22528)) ≡ true
+  of-bands : (bandInBounds (f .low) (pos lowNbMost) && bandInBounds (f .high) (pos highNbMost)) ≡ true
   unfolding filtersInBounds
   of-bands = right (eqb (length (f .x)) 24 && allWords (f .x)) _ w
 
-  of-low : allWords (bandNumbers (f .low)) ≡ true
+  of-low : allWords (numbers (f .low)) ≡ true
   unfolding bandInBounds
-  of-low = left (allWords (bandNumbers (f .low))) _ (left (bandInBounds (f .low) (pos 18432)) _ of-bands)
+  of-low = left (allWords (numbers (f .low))) _ (left (bandInBounds (f .low) (pos lowNbMost)) _ of-bands)
 
-  of-high : allWords (bandNumbers (f .high)) ≡ true
+  of-high : allWords (numbers (f .high)) ≡ true
   unfolding bandInBounds
-  of-high = left (allWords (bandNumbers (f .high))) _ (right (bandInBounds (f .low) (pos 18432)) _ of-bands)
+  of-high = left (allWords (numbers (f .high))) _ (right (bandInBounds (f .low) (pos lowNbMost)) _ of-bands)
 
 limit-in : (v : ℤ) → In (minus 16384) (pos 16383) (LIMIT v)
 limit-in v = clamp-in (minus 16384) (pos 16383) v (record { le = tt })
@@ -107,7 +107,7 @@ firstX dlow dhigh =
     let rhigh = LIMIT (pos 0 +ℤ dhigh) in
     taking (replicate 24 (pos 0)) (rlow +ℤ rhigh) (rlow -ℤ rhigh)
 
-silent : (q : ℤ) → shrZ (pos 0 *ℤ q) 32768 ≡ pos 0
+silent : (q : ℤ) → scaledBy (pos 0) q ≡ pos 0
 silent q = ap (λ (z : ℤ). shrZ z 32768) (zero-*ℤ q)
 
 pub first-pair-zero : (byte : ℕ) → byte < 256

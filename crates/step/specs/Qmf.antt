@@ -33,12 +33,15 @@ abbrev pub IsSum : ℤ → ℤ → Type 0
 IsSum v r = Is (minus 212402176) (pos 212402176) v r
 
 -- the transmit filter: the low and the high band's sample
+abbrev pub transmitted : ℤ → ℤ
+transmitted sum = shrZ sum 16384
+
 abbrev pub xlow : List ℤ → ℤ
-xlow x = shrZ (evenSum x +ℤ oddSum x) 16384
+xlow x = transmitted (evenSum x +ℤ oddSum x)
 
 abbrev pub xhigh : List ℤ → ℤ
-xhigh x = shrZ (evenSum x -ℤ oddSum x) 16384
+xhigh x = transmitted (evenSum x -ℤ oddSum x)
 
--- the receive filter: a sample from a sum
+-- the receive filter: a decoder's sample
 abbrev pub received : ℤ → ℤ
 received sum = sat (shrZ sum 2048)

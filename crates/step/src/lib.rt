@@ -2,11 +2,14 @@
 mod qmf;
 
 use band::Filters;
+use band::inverse;
 use band::quantise;
 use band::update;
 ghost use mathlib.Core.Path.{_≡_};
+ghost use lib.IntN.{pos, _+ℤ_};
+ghost use Rattle.fixed.specs.Number.{minus, Is};
 ghost use Rattle.step.specs.Tables.{DecodingTables, EncodingTables};
-ghost use Rattle.step.specs.Step.{decodeStep, encodeStep};
+ghost use Rattle.step.specs.Step.{LIMIT, decodeStep, encodeStep};
 
 // What one byte gives: the filters after it, and two samples.
 pub struct Decoded {
@@ -19,6 +22,13 @@ pub struct Decoded {
 pub struct Encoded {
     pub filters: Filters,
     pub byte: u8,
+}
+
+// What a band gives out: s and the difference d, within 15 bits.
+fn limited(s: i16, d: i16) -> i32
+    ensures { λ r. ⌜ Is (minus 16384) (pos 16383) (LIMIT (s +ℤ d)) r ⌝ }
+{
+    fixed::clamp(s as i32 + d as i32, -16384, 16383)
 }
 
 pub fn decode_step(
@@ -39,28 +49,37 @@ pub fn decode_step(
 {
     let ilow = (byte % 64) as usize;
     let ihigh = (byte / 64) as usize;
+    let ril = ilow / 4;
     let low = f.low;
     let high = f.high;
-    let dlow = fixed::scaled(low.det, qm6[ilow]);
-    let rlow = fixed::clamp(low.s as i32 + dlow as i32, -16384, 16383);
-    let dhigh = fixed::scaled(high.det, qm2[ihigh]);
-    let rhigh = fixed::clamp(high.s as i32 + dhigh as i32, -16384, 16383);
-    let new_low = update::low_update(qm4, wl, rl42, ilb, ilow / 4, low);
-    let new_high = update::high_update(qm2, wh, rh2, ilb, ihigh, high);
+    // Block 2L, INVQAL
+    let dlow_of_four = inverse::invqal(qm4, ril, low.det);
+    // Blocks 3L and 4L
+    let new_low = update::low_update(wl, rl42, ilb, ril, dlow_of_four, low);
+    // Block 5L, INVQBL and RECONS
+    let dlow_of_six = inverse::invqbl(qm6, ilow, low.det);
+    let rlow = limited(low.s, dlow_of_six);
+    // Block 2H, INVQAH
+    let dhigh = inverse::invqah(qm2, ihigh, high.det);
+    // Blocks 3H and 4H
+    let new_high = update::high_update(wh, rh2, ilb, ihigh, dhigh, high);
+    // Block 5H, RECONS
+    let rhigh = limited(high.s, dhigh);
+    // Receive QMF
     let old_x = f.x;
     let x = qmf::shifted(old_x, (rlow + rhigh) as i16, (rlow - rhigh) as i16);
     let sums = qmf::sum(qmf, x);
-    let first = fixed::saturate(sums.even >> 11);
-    let second = fixed::saturate(sums.odd >> 11);
+    let first = qmf::received(sums.even);
+    let second = qmf::received(sums.odd);
     let filters = Filters {
-        x: x,
+        x,
         low: new_low,
         high: new_high,
     };
     Decoded {
-        filters: filters,
-        first: first,
-        second: second,
+        filters,
+        first,
+        second,
     }
 }
 
@@ -87,25 +106,32 @@ pub fn encode_step(
 {
     let low = f.low;
     let high = f.high;
+    // Transmit QMF
     let old_x = f.x;
     let x = qmf::shifted(old_x, a, b);
     let sums = qmf::sum(qmf, x);
-    let xlow = (sums.even + sums.odd) >> 14;
-    let xhigh = (sums.even - sums.odd) >> 14;
+    let xlow = qmf::transmitted(sums.even + sums.odd);
+    let xhigh = qmf::transmitted(sums.even - sums.odd);
+    // Block 1L, SUBTRA and QUANTL
     let el = fixed::saturate(xlow - low.s as i32);
     let ilow = quantise::quantl(q6, iln, ilp, el, low.det);
-    let new_low = update::low_update(qm4, wl, rl42, ilb, (ilow / 4) as usize, low);
+    let ril = (ilow / 4) as usize;
+    // Block 2L, INVQAL
+    let dlow = inverse::invqal(qm4, ril, low.det);
+    // Blocks 3L and 4L
+    let new_low = update::low_update(wl, rl42, ilb, ril, dlow, low);
+    // Block 1H, SUBTRA and QUANTH
     let eh = fixed::saturate(xhigh - high.s as i32);
     let ihigh = quantise::quanth(ihn, ihp, eh, high.det);
-    let new_high = update::high_update(qm2, wh, rh2, ilb, ihigh as usize, high);
+    // Block 2H, INVQAH
+    let dhigh = inverse::invqah(qm2, ihigh as usize, high.det);
+    // Blocks 3H and 4H
+    let new_high = update::high_update(wh, rh2, ilb, ihigh as usize, dhigh, high);
     let filters = Filters {
-        x: x,
+        x,
         low: new_low,
         high: new_high,
     };
     let byte = 64 * ihigh + ilow;
-    Encoded {
-        filters: filters,
-        byte: byte,
-    }
+    Encoded { filters, byte }
 }

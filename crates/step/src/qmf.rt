@@ -1,7 +1,7 @@
 // The QMF filters.
 ghost use mathlib.Core.Path.{_≡_};
 ghost use Rattle.band.specs.Tables.{QMF-COEFFS};
-ghost use Rattle.step.specs.Qmf.{taking, evenSum, oddSum, IsSum};
+ghost use Rattle.step.specs.Qmf.{taking, evenSum, oddSum, IsSum, transmitted, received};
 
 pub(crate) struct Sums {
     pub even: i32,
@@ -32,15 +32,26 @@ pub(crate) fn sum(qmf: &[i16; 12], x: [i16; 24]) -> Sums
     let mut i: usize = 0;
     while i < 12 {
         let a = x[2 * i];
-        let c = qmf[i];
-        odd = odd + a as i32 * c as i32;
         let b = x[2 * i + 1];
+        let c = qmf[i];
         let e = qmf[11 - i];
-        even = even + b as i32 * e as i32;
+        odd = odd + fixed::product(a, c);
+        even = even + fixed::product(b, e);
         i += 1;
     }
-    Sums {
-        even: even,
-        odd: odd,
-    }
+    Sums { even, odd }
+}
+
+// A band's sample of a sum: the shift rounds down.
+pub(crate) fn transmitted(sum: i32) -> i32
+    ensures { λ r. ⌜ r ≡ transmitted sum ⌝ }
+{
+    sum >> 14
+}
+
+// A decoder's sample of a sum.
+pub(crate) fn received(sum: i32) -> i16
+    ensures { λ r. ⌜ r ≡ received sum ⌝ }
+{
+    fixed::saturate(sum >> 11)
 }

@@ -8,17 +8,17 @@ use mir.Syntax.{w16}
 use mir.Val.{SFits}
 use Rattle.fixed.specs.Number.{minus}
 use Rattle.fixed.proofs.Wide.{any, at1, at2, at3, fits16-of, from16, lit, neg, sub, widen-fits}
-use Rattle.band.specs.Bounds.{allWords, bandInBounds, bandNumbers, between}
-use Rattle.band.proofs.Boxes.{band-words, word-at}
+use Rattle.band.specs.Bounds.{allWords, bandInBounds, numbers, between}
+use Rattle.band.proofs.Boxes.{band-in, word-at, word-told}
 use Rattle.band.proofs.Band.in_bounds.Statement.{statement}
 use Rattle.band.proofs.Band.in_bounds.Tie as tie
 
-words : (c : tie.Start) → allWords (bandNumbers (c .args .self)) ≡ true
-words c = search (needs, band-words)
+words : (c : tie.Start) → allWords (numbers (c .args .self)) ≡ true
+words c = search (needs, band-in, word-told)
 
 -- the band's number i, in the order of a mark line
-field : (c : tie.Start) (i : ℕ) → SFits w16 (getD (bandNumbers (c .args .self)) i (pos 0))
-field c i = fits16-of (word-at (bandNumbers (c .args .self)) (words c) i)
+field : (c : tie.Start) (i : ℕ) → SFits w16 (getD (numbers (c .args .self)) i (pos 0))
+field c i = fits16-of (word-at (numbers (c .args .self)) (words c) i)
 
 cast-a1 : tie.Need-cast-a1
 cast-a1 c = widen-fits (field (c .before .before) 5)

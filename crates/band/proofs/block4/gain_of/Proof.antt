@@ -1,32 +1,31 @@
-use Prim.Native.Nat.{ℕ, suc, zero, zero-le, _≤_}
+use Prim.Native.Nat.{ℕ, suc, zero, _≤_}
 use native.Mathlib.Omega.{arith}
-use lib.Dec.{le→leb, leb→le}
+use lib.Dec.{leb→le}
 use lib.IntN.{ℤ, pos, negsuc}
 use lib.Signed.{ltZ}
 use mathlib.Core.Bool.{true, false, false≢true, true≢false}
 use mathlib.Core.Path.{_≡_, _∙_, refl, sym}
-use Rattle.fixed.specs.Number.{minus}
-use Rattle.fixed.proofs.Signed.{nlt, nlt-of}
+use Rattle.fixed.specs.Number.{minus, signedBy}
+use Rattle.fixed.proofs.Signed.{nlt}
+use Rattle.fixed.proofs.Signs.{kept, not-negative}
 use Rattle.fixed.proofs.Wide.{gives-lit}
 use Rattle.fixed.proofs.Half.{negative, positive}
-use Rattle.band.specs.Block4.{gainOf}
+use Rattle.band.specs.Block4.{gain}
 use Rattle.band.proofs.block4.gain_of.Statement.{statement}
 use Rattle.band.proofs.block4.gain_of.Tie as tie
 
-not-negative : (n : ℕ) → ltZ (pos n) (pos 0) ≡ false
-not-negative n = nlt-of (pos n) (pos 0) (record { le = le→leb 0 n zero-le })
-
-gain-below : (d : ℤ) → ltZ d (pos 0) ≡ true → minus 128 ≡ gainOf d
+gain-below : (d : ℤ) → ltZ d (pos 0) ≡ true → minus 128 ≡ signedBy d (gain d)
+unfolding signedBy
 gain-below (pos n) e = absurd (false≢true (sym (not-negative n) ∙ e))
 gain-below (negsuc n) e = refl
 
-gain-above : (d : ℤ) → ltZ (pos 0) d ≡ true → pos 128 ≡ gainOf d
+gain-above : (d : ℤ) → ltZ (pos 0) d ≡ true → pos 128 ≡ signedBy d (gain d)
 gain-above (pos zero) e = absurd (false≢true e)
-gain-above (pos (suc n)) e = refl
+gain-above (pos (suc n)) e = sym (kept (suc n) (pos 128))
 gain-above (negsuc n) e = absurd (false≢true e)
 
-gain-zero : (d : ℤ) → ltZ d (pos 0) ≡ false → ltZ (pos 0) d ≡ false → pos 0 ≡ gainOf d
-gain-zero (pos zero) e g = refl
+gain-zero : (d : ℤ) → ltZ d (pos 0) ≡ false → ltZ (pos 0) d ≡ false → pos 0 ≡ signedBy d (gain d)
+gain-zero (pos zero) e g = sym (kept zero (pos 0))
 gain-zero (pos (suc n)) e g = let h : suc n ≤ 0 = leb→le (suc n) 0 (nlt (pos 0) (pos (suc n)) g .le) in absurd (omega arith)
 gain-zero (negsuc n) e g = absurd (true≢false e)
 

@@ -1,12 +1,12 @@
 use borrow.Author.Needs.{needs}
 use mathlib.Core.Path.{_∙_}
 use Rattle.fixed.proofs.Half.{ans, h1, h2, half, readh}
-use Rattle.band.specs.Quantise.{codeAt, magnitude, placeHigh}
+use Rattle.band.specs.Quantise.{codeAt, size, placeHigh}
 use Rattle.band.proofs.quantise.quanth.Statement.{statement}
 use Rattle.band.proofs.quantise.quanth.Tie as tie
 
-magnitude-of-requires : tie.Need-magnitude-of-requires
-magnitude-of-requires c κs = tt
+size-of-requires : tie.Need-size-of-requires
+size-of-requires c κs = tt
 
 place-high-requires : tie.Need-place-high-requires
 place-high-requires c κs = tt
@@ -24,10 +24,10 @@ returns : tie.Need-returns
 unfolding codeAt
 returns c =
     let at-place = c .before .before .before in
-    let at-magnitude = at-place .before in
-    let s = at-magnitude .before in
+    let at-size = at-place .before in
+    let s = at-size .before in
     let eh = half (s .fits .eh) in
-    let w = ans (at-magnitude .magnitude-of .ensures) (h1 eh magnitude) (at-magnitude .magnitude-of .ok) in
+    let w = ans (at-size .size-of .ensures) (h1 eh size) (at-size .size-of .ok) in
     let i = at-place .place-high .ensures .0 ∙ h2 w (half (s .fits .det)) placeHigh in
     c .by-sign .ensures ∙ λ t. codeAt (s .pre .0 t) (s .pre .1 t) (readh eh t) (i t)
 
@@ -35,7 +35,7 @@ pub quanth-spec : {M : Type 1} → statement M
 quanth-spec =
     tie.close
     (tie.spec
-    magnitude-of-requires
+    size-of-requires
     place-high-requires
     element-copy-out-by-sign
     element-copy-out-by-sign-2

@@ -1,12 +1,12 @@
 use borrow.Author.Needs.{needs}
 use mathlib.Core.Path.{_∙_}
 use Rattle.fixed.proofs.Half.{ans, h1, h2, half, readh}
-use Rattle.band.specs.Quantise.{codeAt, magnitude, placeLow}
+use Rattle.band.specs.Quantise.{codeAt, size, placeLow}
 use Rattle.band.proofs.quantise.quantl.Statement.{statement}
 use Rattle.band.proofs.quantise.quantl.Tie as tie
 
-magnitude-of-requires : tie.Need-magnitude-of-requires
-magnitude-of-requires c κs = tt
+size-of-requires : tie.Need-size-of-requires
+size-of-requires c κs = tt
 
 place-low-requires : tie.Need-place-low-requires
 place-low-requires c κs = c .before .pre .0
@@ -24,10 +24,10 @@ returns : tie.Need-returns
 unfolding codeAt
 returns c =
     let at-place = c .before .before .before in
-    let at-magnitude = at-place .before in
-    let s = at-magnitude .before in
+    let at-size = at-place .before in
+    let s = at-size .before in
     let el = half (s .fits .el) in
-    let w = ans (at-magnitude .magnitude-of .ensures) (h1 el magnitude) (at-magnitude .magnitude-of .ok) in
+    let w = ans (at-size .size-of .ensures) (h1 el size) (at-size .size-of .ok) in
     let i = at-place .place-low .ensures .0 ∙ h2 w (half (s .fits .det)) placeLow in
     c .by-sign .ensures ∙ λ t. codeAt (s .pre .1 t) (s .pre .2 t) (readh el t) (i t)
 
@@ -35,7 +35,7 @@ pub quantl-spec : {M : Type 1} → statement M
 quantl-spec =
     tie.close
     (tie.spec
-    magnitude-of-requires
+    size-of-requires
     place-low-requires
     element-copy-out-by-sign
     element-copy-out-by-sign-2

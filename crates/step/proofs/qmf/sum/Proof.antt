@@ -3,16 +3,15 @@ use Prim.Native.Nat.{_+_, _-_, _*_, _≤_}
 use native.Mathlib.Numerals.{add-one}
 use native.Mathlib.Omega.{arith}
 use borrow.Author.Needs.{sfits-of}
-use lib.IntN.{ℤ, pos}
+use lib.IntN.{ℤ, pos, _*ℤ_}
 use lib.ListN.{getD}
 use mathlib.Core.Bool.{true}
 use mathlib.Core.List.{List}
-use mathlib.Core.Path.{_≡_, _∙_, ap, sym}
+use mathlib.Core.Path.{_≡_, _∙_, ap, refl, sym}
 use mir.Syntax.{w32}
 use mir.Val.{ofZ}
-use Rattle.fixed.proofs.Wide.{add, gives, mul, to, var}
-use Rattle.fixed.proofs.Half.{entry16, half, wide-h}
-use Rattle.fixed.proofs.Fits.{fits}
+use Rattle.fixed.proofs.Wide.{add, call, gives, to, var}
+use Rattle.fixed.proofs.Half.{entry16, h2, half}
 use Rattle.band.specs.Tables.{QMF-COEFFS}
 use Rattle.band.specs.Bounds.{allWords}
 use Rattle.band.proofs.Boxes.{array-words}
@@ -41,33 +40,6 @@ mul-a-2 c = omega arith
 array-copy-out-a : tie.Need-array-copy-out-a Inv-loop μ-loop
 array-copy-out-a c = omega arith
 
-mul-c : tie.Need-mul-c Inv-loop μ-loop
-mul-c c = omega arith
-
-element-copy-out-c : tie.Need-element-copy-out-c Inv-loop μ-loop
-element-copy-out-c c = omega arith
-
-cast-odd : tie.Need-cast-odd Inv-loop μ-loop
-cast-odd c = search fits depth 12
-
-cast-odd-2 : tie.Need-cast-odd-2 Inv-loop μ-loop
-cast-odd-2 c = search fits depth 12
-
-mul-odd : tie.Need-mul-odd Inv-loop μ-loop
-mul-odd c =
-    let s = c .before .before .before .before in
-    let i = c .before .before .before .loop .i in
-    let a = half {z = getD (s .args .t2) (2 * i) (pos 0)} (sfits-of (c .before .a .given)) in
-    mul (wide-h a) (wide-h (entry16 QMF-COEFFS tt (s .pre) i)) tt .fits
-
-add-odd : tie.Need-add-odd Inv-loop μ-loop
-add-odd c =
-    let l = c .before .before .before in
-    let s = l .before in
-    let a = half {z = getD (s .args .t2) (2 * l .loop .i) (pos 0)} (sfits-of (c .before .a .given)) in
-    let q = entry16 QMF-COEFFS tt (s .pre) (l .loop .i) in
-    rw (l .loop .inv .2) (add (var (odd-in (s .args .t2) (words s) (l .loop .i)) tt) (mul (wide-h a) (wide-h q) tt) tt .fits)
-
 mul-b : tie.Need-mul-b Inv-loop μ-loop
 mul-b c = omega arith
 
@@ -80,6 +52,12 @@ mul-b-2 c = omega arith
 array-copy-out-b : tie.Need-array-copy-out-b Inv-loop μ-loop
 array-copy-out-b c = omega arith
 
+mul-c : tie.Need-mul-c Inv-loop μ-loop
+mul-c c = omega arith
+
+element-copy-out-c : tie.Need-element-copy-out-c Inv-loop μ-loop
+element-copy-out-c c = omega arith
+
 sub-e : tie.Need-sub-e Inv-loop μ-loop
 sub-e c = omega arith
 
@@ -89,26 +67,23 @@ mul-e c = omega arith
 element-copy-out-e : tie.Need-element-copy-out-e Inv-loop μ-loop
 element-copy-out-e c = omega arith
 
-cast-even : tie.Need-cast-even Inv-loop μ-loop
-cast-even c = search fits depth 12
+product-requires : tie.Need-product-requires Inv-loop μ-loop
+product-requires c κs = tt
 
-cast-even-2 : tie.Need-cast-even-2 Inv-loop μ-loop
-cast-even-2 c = search fits depth 12
+add-odd : tie.Need-add-odd Inv-loop μ-loop
+add-odd c =
+    let l = c .before .before .before .before .before .before in
+    let so-far = var (odd-in (l .before .args .t2) (words (l .before)) (l .loop .i)) tt in
+    rw (l .loop .inv .2) (add so-far (call (c .product .ensures) refl tt) tt .fits)
 
-mul-even : tie.Need-mul-even Inv-loop μ-loop
-mul-even c =
-    let l = c .before .before .before .before .before in
-    let s = l .before in
-    let b = half {z = getD (s .args .t2) (2 * l .loop .i + 1) (pos 0)} (sfits-of (c .before .b .given)) in
-    mul (wide-h b) (wide-h (entry16 QMF-COEFFS tt (s .pre) (11 - l .loop .i))) tt .fits
+product-requires-2 : tie.Need-product-requires-2 Inv-loop μ-loop
+product-requires-2 c κs = tt
 
 add-even : tie.Need-add-even Inv-loop μ-loop
 add-even c =
-    let l = c .before .before .before .before .before in
-    let s = l .before in
-    let b = half {z = getD (s .args .t2) (2 * l .loop .i + 1) (pos 0)} (sfits-of (c .before .b .given)) in
-    let q = entry16 QMF-COEFFS tt (s .pre) (11 - l .loop .i) in
-    rw (l .loop .inv .1) (add (var (even-in (s .args .t2) (words s) (l .loop .i)) tt) (mul (wide-h b) (wide-h q) tt) tt .fits)
+    let l = c .before .before .before .before .before .before .before in
+    let so-far = var (even-in (l .before .args .t2) (words (l .before)) (l .loop .i)) tt in
+    rw (l .loop .inv .1) (add so-far (call (c .product2 .ensures) refl tt) tt .fits)
 
 add-i : tie.Need-add-i Inv-loop μ-loop
 add-i c = omega arith
@@ -118,17 +93,17 @@ loop-less c = omega arith
 
 loop-again : tie.Need-loop-again Inv-loop μ-loop
 loop-again c =
-    let at-a = c .before .before .before in
+    let at-b = c .before .before .before .before in
+    let at-a = at-b .before in
     let l = at-a .before .before in
     let s = l .before in
     let x : List ℤ = s .args .t2 in
     let i = l .loop .i in
     let a = half {z = getD x (2 * i) (pos 0)} (sfits-of (at-a .a .given)) in
-    let b = half {z = getD x (2 * i + 1) (pos 0)} (sfits-of (c .before .b .given)) in
-    let q = wide-h (entry16 QMF-COEFFS tt (s .pre) i) in
-    let r = wide-h (entry16 QMF-COEFFS tt (s .pre) (11 - i)) in
-    let odd = add (var (odd-in x (words s) i) tt) (mul (wide-h a) q tt) tt in
-    let even = add (var (even-in x (words s) i) tt) (mul (wide-h b) r tt) tt in (
+    let b = half {z = getD x (2 * i + 1) (pos 0)} (sfits-of (at-b .b .given)) in
+    let q = entry16 QMF-COEFFS tt (s .pre) in
+    let odd = add (var (odd-in x (words s) i) tt) (call (c .before .product .ensures) (h2 a (q i) _*ℤ_) tt) tt in
+    let even = add (var (even-in x (words s) i) tt) (call (c .product2 .ensures) (h2 b (q (11 - i)) _*ℤ_) tt) tt in (
       omega arith,
       rw (l .loop .inv .1) (ap (ofZ w32) (even .is ∙ even-next x i (at-a .before .loop-test .taken) ∙ ap (evenUpTo x) (sym (add-one i)))),
       rw (l .loop .inv .2) (ap (ofZ w32) (odd .is ∙ odd-next x i ∙ ap (oddUpTo x) (sym (add-one i)))),
@@ -154,22 +129,18 @@ sum-spec =
     mul-a
     mul-a-2
     array-copy-out-a
-    mul-c
-    element-copy-out-c
-    cast-odd
-    cast-odd-2
-    mul-odd
-    add-odd
     mul-b
     add-b
     mul-b-2
     array-copy-out-b
+    mul-c
+    element-copy-out-c
     sub-e
     mul-e
     element-copy-out-e
-    cast-even
-    cast-even-2
-    mul-even
+    product-requires
+    add-odd
+    product-requires-2
     add-even
     add-i
     loop-less
