@@ -1,10 +1,18 @@
-// Block 3: the scale factors.
+// Blocks 2, 3 and 5: the inverse quantisers and the scale factors.
 ghost use mathlib.Core.Path.{_≡_};
 ghost use Prim.Native.Nat.{_≤_, _*_, _+_};
 ghost use lib.IntN.{pos};
-ghost use Rattle.fixed.specs.Number.{In, In16, Is};
+ghost use Rattle.fixed.specs.Number.{minus, In, In16, Is, scaledBy};
 ghost use Rattle.band.specs.Tables.{ILB};
 ghost use Rattle.band.specs.Adapt.{LOGSC, SCALE};
+
+// INVQAL, INVQBL and INVQAH: the difference that a code's entry q stands for.
+pub fn invq(det: i16, q: i32) -> i16
+    requires { ⌜ In (minus 32767) (pos 32767) q ⌝ }
+    ensures { λ r. ⌜ r ≡ scaledBy det q ⌝ }
+{
+    fixed::scaled(det, q) as i16
+}
 
 // LOGSCL and LOGSCH: w is the code's step, most the greatest nb.
 pub(crate) fn logsc(nb: i16, w: i32, most: i32) -> i16

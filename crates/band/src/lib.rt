@@ -1,7 +1,6 @@
 // A band's record, and what both ends of G.722 do with it: quantisers, scale factors, and the predictor of block 4.
-mod adapt;
+pub mod adapt;
 mod block4;
-pub mod inverse;
 pub mod quantise;
 pub mod tables;
 pub mod update;

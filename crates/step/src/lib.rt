@@ -2,7 +2,7 @@
 mod qmf;
 
 use band::Filters;
-use band::inverse;
+use band::adapt;
 use band::quantise;
 use band::update;
 ghost use mathlib.Core.Path.{_≡_};
@@ -52,19 +52,19 @@ pub fn decode_step(
     let ril = ilow / 4;
     let low = f.low;
     let high = f.high;
-    // Block 2L, INVQAL
-    let dlow_of_four = inverse::invqal(qm4, ril, low.det);
-    // Blocks 3L and 4L
-    let new_low = update::low_update(wl, rl42, ilb, ril, dlow_of_four, low);
+    // All six bits for what is given out, the upper four for the predictor
+    let q_of_six = qm6[ilow];
+    let q_of_four = qm4[ril];
     // Block 5L, INVQBL and RECONS
-    let dlow_of_six = inverse::invqbl(qm6, ilow, low.det);
+    let dlow_of_six = adapt::invq(low.det, q_of_six);
     let rlow = limited(low.s, dlow_of_six);
-    // Block 2H, INVQAH
-    let dhigh = inverse::invqah(qm2, ihigh, high.det);
-    // Blocks 3H and 4H
-    let new_high = update::high_update(wh, rh2, ilb, ihigh, dhigh, high);
-    // Block 5H, RECONS
+    // Block 5H, INVQAH and RECONS
+    let dhigh = adapt::invq(high.det, qm2[ihigh]);
     let rhigh = limited(high.s, dhigh);
+    // Blocks 2L, 3L and 4L
+    let new_low = update::low_update(wl, rl42, ilb, ril, q_of_four, low);
+    // Blocks 2H, 3H and 4H
+    let new_high = update::high_update(wh, rh2, ilb, ihigh, qm2[ihigh], high);
     // Receive QMF
     let old_x = f.x;
     let x = qmf::shifted(old_x, (rlow + rhigh) as i16, (rlow - rhigh) as i16);
@@ -116,17 +116,14 @@ pub fn encode_step(
     let el = fixed::saturate(xlow - low.s as i32);
     let ilow = quantise::quantl(q6, iln, ilp, el, low.det);
     let ril = (ilow / 4) as usize;
-    // Block 2L, INVQAL
-    let dlow = inverse::invqal(qm4, ril, low.det);
-    // Blocks 3L and 4L
-    let new_low = update::low_update(wl, rl42, ilb, ril, dlow, low);
+    // Blocks 2L, 3L and 4L
+    let new_low = update::low_update(wl, rl42, ilb, ril, qm4[ril], low);
     // Block 1H, SUBTRA and QUANTH
     let eh = fixed::saturate(xhigh - high.s as i32);
     let ihigh = quantise::quanth(ihn, ihp, eh, high.det);
-    // Block 2H, INVQAH
-    let dhigh = inverse::invqah(qm2, ihigh as usize, high.det);
-    // Blocks 3H and 4H
-    let new_high = update::high_update(wh, rh2, ilb, ihigh as usize, dhigh, high);
+    let code = ihigh as usize;
+    // Blocks 2H, 3H and 4H
+    let new_high = update::high_update(wh, rh2, ilb, code, qm2[code], high);
     let filters = Filters {
         x,
         low: new_low,

@@ -1,13 +1,15 @@
-use Prim.Native.Nat.{_%_, _/_}
+use Prim.Native.Nat.{ℕ, _%_, _/_}
 use native.Mathlib.Omega.{arith}
 use borrow.Author.Needs.{needs, sfits-of}
-use mathlib.Core.Path.{_∙_, ap}
+use mathlib.Core.Path.{_∙_, ap, refl}
 use lib.IntN.{ℤ, pos, _+ℤ_}
-use Rattle.fixed.specs.Number.{minus}
-use Rattle.fixed.proofs.Wide.{E, add, at1, call, narrow-fits, sub, var, wide}
-use Rattle.fixed.proofs.Half.{H, ans, h1, h2, half, readh, thin}
+use lib.ListN.{getD}
+use Rattle.fixed.specs.Number.{minus, In, scaledBy}
+use Rattle.fixed.proofs.Wide.{E, add, asks, at1, call, narrow-fits, rd, read, sub, var, wide}
+use Rattle.fixed.proofs.Half.{H, ans, entry32, h2, half, readh, scales, thin}
 use Rattle.band.specs.declared.Band.{Band}
-use Rattle.band.specs.Adapt.{INVQAH, INVQAL, INVQBL, LOGSCH, LOGSCL, SCALEH, SCALEL, highUpdate, lowUpdate, updated}
+use Rattle.band.specs.Tables.{QM2, QM4, QM6}
+use Rattle.band.specs.Adapt.{LOGSCH, LOGSCL, SCALEH, SCALEL, highUpdate, lowUpdate, updated}
 use Rattle.step.specs.Qmf.{taking, evenSum, oddSum, received}
 use Rattle.step.specs.Step.{LIMIT, decodeStep}
 use Rattle.step.proofs.decode_step.Statement.{statement}
@@ -16,7 +18,7 @@ use Rattle.step.proofs.decode_step.Tie as tie
 -- the two bands' numbers that are read
 module _ (c : tie.After-struct-told) where
   abbrev low : Band
-  low = c .before .before .before .args .f .low
+  low = c .before .before .before .before .before .args .f .low
 
   low-s : H (low .s) (low .s)
   low-s = half (sfits-of (c .struct-told .given .0 .1))
@@ -24,15 +26,32 @@ module _ (c : tie.After-struct-told) where
   low-det : H (low .det) (low .det)
   low-det = half (sfits-of (c .struct-told .given .1 .1 .1 .1 .1 .1 .1 .1 .1 .1 .1 .1 .1 .1 .1 .1 .1 .1 .1 .1 .1 .1 .0 .1))
 
-module _ (c : tie.After-struct-told4) where
+module _ (c : tie.After-struct-told3) where
   abbrev high : Band
   high = c .before .before .before .before .before .before .before .before .before .before .args .f .high
 
   high-s : H (high .s) (high .s)
-  high-s = half (sfits-of (c .struct-told4 .given .0 .1))
+  high-s = half (sfits-of (c .struct-told3 .given .0 .1))
 
   high-det : H (high .det) (high .det)
-  high-det = half (sfits-of (c .struct-told4 .given .1 .1 .1 .1 .1 .1 .1 .1 .1 .1 .1 .1 .1 .1 .1 .1 .1 .1 .1 .1 .1 .1 .0 .1))
+  high-det = half (sfits-of (c .struct-told3 .given .1 .1 .1 .1 .1 .1 .1 .1 .1 .1 .1 .1 .1 .1 .1 .1 .1 .1 .1 .1 .1 .1 .0 .1))
+
+-- the entries of the inverse quantisers' tables
+module _ (s : tie.Start) (i : ℕ) where
+  six : E (minus 32767) (pos 32767) (getD (s .args .qm6 .now) i (pos 0)) (getD QM6 i (pos 0))
+  six = entry32 QM6 (minus 32767) (pos 32767) tt tt (s .pre .is-qm6) refl
+
+  four : E (minus 32767) (pos 32767) (getD (s .args .qm4 .now) i (pos 0)) (getD QM4 i (pos 0))
+  four = entry32 QM4 (minus 32767) (pos 32767) tt tt (s .pre .is-qm4) refl
+
+  two : E (minus 32767) (pos 32767) (getD (s .args .qm2 .now) i (pos 0)) (getD QM2 i (pos 0))
+  two = entry32 QM2 (minus 32767) (pos 32767) tt tt (s .pre .is-qm2) refl
+
+  in-six : In (minus 32767) (pos 32767) (rd (getD (s .args .qm6 .now) i (pos 0)))
+  in-six = asks six _ _ tt tt
+
+  in-four : In (minus 32767) (pos 32767) (rd (getD (s .args .qm4 .now) i (pos 0)))
+  in-four = asks four _ _ tt tt
 
 -- what the bands give out, in its range
 module _ (c : tie.After-limited2) where
@@ -43,7 +62,7 @@ module _ (c : tie.After-limited2) where
   rhigh = var (c .limited2 .ensures .range) tt
 
   abbrev start : tie.Start
-  start = c .before .before .before .before .before .before .before .before .before .before .before .before .before .before
+  start = c .before .before .before .before .before .before .before .before .before .before .before .before .before
 
 cast-ilow : tie.Need-cast-ilow
 cast-ilow c = search needs
@@ -51,50 +70,71 @@ cast-ilow c = search needs
 cast-ihigh : tie.Need-cast-ihigh
 cast-ihigh c = search needs
 
-invqal-requires : tie.Need-invqal-requires
-invqal-requires c κs = (c .before .before .before .pre .is-qm4, omega arith)
+mul-q-of-six : tie.Need-mul-q-of-six
+mul-q-of-six c = omega arith
 
-low-update-requires : tie.Need-low-update-requires
-low-update-requires c κs =
-    let p = c .before .before .before .before .pre in
-    (p .is-wl, p .is-rl42, p .is-ilb, omega arith)
+element-copy-out-q-of-six : tie.Need-element-copy-out-q-of-six
+element-copy-out-q-of-six c = omega arith
 
-invqbl-requires : tie.Need-invqbl-requires
-invqbl-requires c κs = (c .before .before .before .before .before .before .pre .is-qm6, omega arith)
+mul-q-of-four : tie.Need-mul-q-of-four
+mul-q-of-four c = omega arith
+
+element-copy-out-q-of-four : tie.Need-element-copy-out-q-of-four
+element-copy-out-q-of-four c = omega arith
+
+invq-requires : tie.Need-invq-requires
+invq-requires c κs = in-six (c .before .before .before .before .before) _
 
 limited-requires : tie.Need-limited-requires
 limited-requires c κs = tt
 
-invqah-requires : tie.Need-invqah-requires
-invqah-requires c κs =
-    let s = c .before .before .before .before .before .before .before .before .before .before in
-    (s .pre .is-qm2, omega (arith, s .fits .byte))
+mul-invq : tie.Need-mul-invq
+mul-invq c = omega (arith, c .before .before .before .before .before .before .before .before .fits .byte)
 
-high-update-requires : tie.Need-high-update-requires
-high-update-requires c κs =
-    let s = c .before .before .before .before .before .before .before .before .before .before .before in
-    (s .pre .is-wh, s .pre .is-rh2, s .pre .is-ilb, omega (arith, s .fits .byte))
+element-copy-out-invq : tie.Need-element-copy-out-invq
+element-copy-out-invq c = omega (arith, c .before .before .before .before .before .before .before .before .fits .byte)
+
+invq-requires-2 : tie.Need-invq-requires-2
+invq-requires-2 c κs = asks (two (c .before .before .before .before .before .before .before .before .before .before) _) _ _ tt tt
 
 limited-requires-2 : tie.Need-limited-requires-2
 limited-requires-2 c κs = tt
 
+low-update-requires : tie.Need-low-update-requires
+low-update-requires c κs =
+    let s = start c in
+    let p = s .pre in
+    (p .is-wl, p .is-rl42, p .is-ilb, omega arith, search (in-four s, in-six s))
+
+mul-high-update : tie.Need-mul-high-update
+mul-high-update c = omega (arith, start (c .before) .fits .byte)
+
+element-copy-out-high-update : tie.Need-element-copy-out-high-update
+element-copy-out-high-update c = omega (arith, start (c .before) .fits .byte)
+
+high-update-requires : tie.Need-high-update-requires
+high-update-requires c κs =
+    let s = start (c .before .before) in
+    let p = s .pre in
+    (p .is-wh, p .is-rh2, p .is-ilb, omega (arith, s .fits .byte), asks (two s _) _ _ tt tt)
+
 add-shifted : tie.Need-add-shifted
-add-shifted c = add (rlow (c .before)) (rhigh (c .before)) tt .fits
+add-shifted c = let r = c .before .before .before .before in add (rlow r) (rhigh r) tt .fits
 
 cast-shifted : tie.Need-cast-shifted
-cast-shifted c = narrow-fits (wide (add (rlow (c .before)) (rhigh (c .before)) tt) _ _ tt tt tt)
+cast-shifted c = let r = c .before .before .before .before in narrow-fits (wide (add (rlow r) (rhigh r) tt) _ _ tt tt tt)
 
 sub-shifted : tie.Need-sub-shifted
-sub-shifted c = sub (rlow (c .before)) (rhigh (c .before)) tt .fits
+sub-shifted c = let r = c .before .before .before .before in sub (rlow r) (rhigh r) tt .fits
 
 cast-shifted-2 : tie.Need-cast-shifted-2
-cast-shifted-2 c = narrow-fits (wide (sub (rlow (c .before)) (rhigh (c .before)) tt) _ _ tt tt tt)
+cast-shifted-2 c = let r = c .before .before .before .before in narrow-fits (wide (sub (rlow r) (rhigh r) tt) _ _ tt tt tt)
 
 shifted-requires : tie.Need-shifted-requires
 shifted-requires c κs = tt
 
 sum-requires : tie.Need-sum-requires
-sum-requires c κs = start (c .before .before) .pre .is-qmf
+sum-requires c κs = start (c .before .before .before .before .before) .pre .is-qmf
 
 received-requires : tie.Need-received-requires
 received-requires c κs = tt
@@ -108,23 +148,21 @@ returns c =
     let at-first = c .before .before in
     let at-sum = at-first .before .before in
     let at-x = at-sum .before in
-    let at-rhigh = at-x .before .before in
-    let at-high = at-rhigh .before .before in
-    let at-dhigh = at-high .before in
+    let at-high = at-x .before .before in
+    let at-low = at-high .before .before in
+    let at-rhigh = at-low .before in
+    let at-dhigh = at-rhigh .before .before in
     let high-told = at-dhigh .before in
-    let at-rlow = high-told .before in
-    let at-six = at-rlow .before .before in
-    let at-low = at-six .before .before in
-    let at-four = at-low .before in
-    let low-told = at-four .before in
+    let at-rlow = high-told .before .before in
+    let at-dlow = at-rlow .before .before in
+    let low-told = at-dlow .before in
     let s = start at-rhigh in
     let f = s .args .f in
     let ilow = s .args .byte % 64 in
     let ihigh = s .args .byte / 64 in
-    let four = ans (at-four .invqal .ensures) (h1 (low-det low-told) (λ (z : ℤ). INVQAL z (ilow / 4))) (at-four .invqal .ok) in
-    let six = ans (at-six .invqbl .ensures) (h1 (low-det low-told) (λ (z : ℤ). INVQBL z ilow)) (at-six .invqbl .ok) in
-    let dhigh = ans (at-dhigh .invqah .ensures) (h1 (high-det high-told) (λ (z : ℤ). INVQAH z ihigh)) (at-dhigh .invqah .ok) in
-    let rlow = call (at-rlow .limited .ensures) (h2 (low-s low-told) six (λ (y z : ℤ). LIMIT (y +ℤ z))) tt in
+    let dlow = ans (at-dlow .invq .ensures) (scales (low-det low-told) (six s ilow)) (at-dlow .invq .ok) in
+    let dhigh = ans (at-dhigh .invq2 .ensures) (scales (high-det high-told) (two s ihigh)) (at-dhigh .invq2 .ok) in
+    let rlow = call (at-rlow .limited .ensures) (h2 (low-s low-told) dlow (λ (y z : ℤ). LIMIT (y +ℤ z))) tt in
     let rhigh = call (at-rhigh .limited2 .ensures) (h2 (high-s high-told) dhigh (λ (y z : ℤ). LIMIT (y +ℤ z))) tt in
     let a = thin (wide (add rlow rhigh tt) _ _ tt tt tt) in
     let b = thin (wide (sub rlow rhigh tt) _ _ tt tt tt) in
@@ -133,8 +171,10 @@ returns c =
     let odd = call (at-sum .sum .ensures .1) (ap oddSum x) tt in
     let first = ans (at-first .received .ensures) (at1 even received) (at-first .received .ok) in
     let second = ans (c .received2 .ensures) (at1 odd received) (c .received2 .ok) in
-    let low = at-low .low-update .ensures ∙ h1 four (λ (z : ℤ). updated LOGSCL SCALEL (f .low) z (ilow / 4)) in
-    let high = at-high .high-update .ensures ∙ h1 dhigh (λ (z : ℤ). updated LOGSCH SCALEH (f .high) z ihigh) in
+    let low = at-low .low-update .ensures
+    ∙ at1 (four s (ilow / 4)) (λ (q : ℤ). updated LOGSCL SCALEL (f .low) (scaledBy (f .low .det) q) (ilow / 4)) in
+    let high = at-high .high-update .ensures
+    ∙ at1 (two s ihigh) (λ (q : ℤ). updated LOGSCH SCALEH (f .high) (scaledBy (f .high .det) q) ihigh) in
     λ t. record {
       filters = record { x = x t; low = low t; high = high t };
       first = readh first t;
@@ -147,13 +187,20 @@ decode-step-spec =
     (tie.spec
     cast-ilow
     cast-ihigh
-    invqal-requires
-    low-update-requires
-    invqbl-requires
+    mul-q-of-six
+    element-copy-out-q-of-six
+    mul-q-of-four
+    element-copy-out-q-of-four
+    invq-requires
     limited-requires
-    invqah-requires
-    high-update-requires
+    mul-invq
+    element-copy-out-invq
+    invq-requires-2
     limited-requires-2
+    low-update-requires
+    mul-high-update
+    element-copy-out-high-update
+    high-update-requires
     add-shifted
     cast-shifted
     sub-shifted

@@ -1,14 +1,16 @@
 use Prim.Native.Nat.{ℕ, _+_, _*_, _/_, _≤_}
 use native.Mathlib.Omega.{arith}
 use borrow.Author.Needs.{needs, sfits-of}
-use mathlib.Core.Path.{_∙_, ap, subst, sym}
+use mathlib.Core.Path.{_≡_, _∙_, ap, refl, subst, sym}
 use lib.IntN.{pos}
-use Rattle.fixed.specs.Number.{minus, sat}
-use Rattle.fixed.proofs.Wide.{E, add, at1, call, same, shr, sub, var, widen-fits}
-use Rattle.fixed.proofs.Half.{H, ans, h2, half, readh, wide-h}
+use lib.ListN.{getD}
+use Rattle.fixed.specs.Number.{minus, sat, scaledBy}
+use Rattle.fixed.proofs.Wide.{E, add, asks, at1, call, read, same, shr, sub, var, widen-fits}
+use Rattle.fixed.proofs.Half.{H, ans, entry32, h2, half, wide-h}
 use Rattle.band.specs.declared.Band.{Band}
+use Rattle.band.specs.Tables.{QM2, QM4}
 use Rattle.band.specs.Quantise.{QUANTL, QUANTH}
-use Rattle.band.specs.Adapt.{INVQAH, INVQAL, LOGSCH, LOGSCL, SCALEH, SCALEL, highUpdate, lowUpdate, updated}
+use Rattle.band.specs.Adapt.{LOGSCH, LOGSCL, SCALEH, SCALEL, highUpdate, lowUpdate, updated}
 use Rattle.band.proofs.Codes.{quantl-most, quanth-most}
 use Rattle.step.specs.Qmf.{taking, evenSum, oddSum}
 use Rattle.step.specs.Step.{encodeStep}
@@ -26,15 +28,15 @@ module _ (c : tie.After-struct-told3) where
   low-det : H (low .det) (low .det)
   low-det = half (sfits-of (c .struct-told3 .given .1 .1 .1 .1 .1 .1 .1 .1 .1 .1 .1 .1 .1 .1 .1 .1 .1 .1 .1 .1 .1 .1 .0 .1))
 
-module _ (c : tie.After-struct-told6) where
+module _ (c : tie.After-struct-told5) where
   abbrev high : Band
-  high = let s = c .before .before .before .before .before .before .before .before in s .before .before .before .before .before .before .before .before .before .before .before .before .before .args .f .high
+  high = let s = c .before .before .before .before .before .before .before in s .before .before .before .before .before .before .before .before .before .before .before .before .before .args .f .high
 
   high-s : H (high .s) (high .s)
-  high-s = half (sfits-of (c .struct-told6 .given .0 .1))
+  high-s = half (sfits-of (c .struct-told5 .given .0 .1))
 
   high-det : H (high .det) (high .det)
-  high-det = half (sfits-of (c .struct-told6 .given .1 .1 .1 .1 .1 .1 .1 .1 .1 .1 .1 .1 .1 .1 .1 .1 .1 .1 .1 .1 .1 .1 .0 .1))
+  high-det = half (sfits-of (c .struct-told5 .given .1 .1 .1 .1 .1 .1 .1 .1 .1 .1 .1 .1 .1 .1 .1 .1 .1 .1 .1 .1 .1 .1 .0 .1))
 
 -- the sums, in their range
 module _ (c : tie.After-sum) where
@@ -43,6 +45,14 @@ module _ (c : tie.After-sum) where
 
   odd : let r = c .sum .result .odd in E (minus 212402176) (pos 212402176) r r
   odd = var (c .sum .ensures .1 .range) tt
+
+-- the entries of the inverse quantisers' tables
+module _ (s : tie.Start) {i j : ℕ} (e : i ≡ j) where
+  four : E (minus 32767) (pos 32767) (getD (s .args .qm4 .now) i (pos 0)) (getD QM4 j (pos 0))
+  four = entry32 QM4 (minus 32767) (pos 32767) tt tt (s .pre .is-qm4) e
+
+  two : E (minus 32767) (pos 32767) (getD (s .args .qm2 .now) i (pos 0)) (getD QM2 j (pos 0))
+  two = entry32 QM2 (minus 32767) (pos 32767) tt tt (s .pre .is-qm2) e
 
 -- the codes' ranges
 ilow-most : (c : tie.After-quantl) → c .quantl .result ≤ 63
@@ -92,20 +102,24 @@ quantl-requires c κs =
 cast-ril : tie.Need-cast-ril
 cast-ril c = search needs
 
-invqal-requires : tie.Need-invqal-requires
-invqal-requires c κs = (start (c .before) .pre .is-qm4, omega (arith, ilow-most (c .before)))
+mul-low-update : tie.Need-mul-low-update
+mul-low-update c = omega (arith, ilow-most c)
+
+element-copy-out-low-update : tie.Need-element-copy-out-low-update
+element-copy-out-low-update c = omega (arith, ilow-most c)
 
 low-update-requires : tie.Need-low-update-requires
 low-update-requires c κs =
-    let p = start (c .before .before) .pre in
-    (p .is-wl, p .is-rl42, p .is-ilb, omega (arith, ilow-most (c .before .before)))
+    let s = start (c .before) in
+    let p = s .pre in
+    (p .is-wl, p .is-rl42, p .is-ilb, omega (arith, ilow-most (c .before)), asks (four s refl) _ _ tt tt)
 
 cast-saturate-2 : tie.Need-cast-saturate-2
 cast-saturate-2 c = widen-fits (high-s c .fits)
 
 sub-saturate-2 : tie.Need-sub-saturate-2
 sub-saturate-2 c =
-    let at-xhigh = c .before .before .before .before .before .before .before .before .before .before in
+    let at-xhigh = c .before .before .before .before .before .before .before .before .before in
     let s = at-xhigh .before .before .before .before .before .before in
     sub (same (shr (sub (even s) (odd s) tt) 14 tt) (at-xhigh .transmitted2 .ensures)) (wide-h (high-s c)) tt .fits
 
@@ -114,39 +128,38 @@ saturate-requires-2 c κs = tt
 
 quanth-requires : tie.Need-quanth-requires
 quanth-requires c κs =
-    let p = start (c .before .before .before .before .before .before .before) .pre in
+    let p = start (c .before .before .before .before .before .before) .pre in
     (p .is-ihn, p .is-ihp)
 
-cast-invqah : tie.Need-cast-invqah
-cast-invqah c = search needs
+cast-code : tie.Need-cast-code
+cast-code c = search needs
 
-invqah-requires : tie.Need-invqah-requires
-invqah-requires c κs = (start (c .before .before .before .before .before .before .before .before .before) .pre .is-qm2, omega (arith, ihigh-most (c .before)))
+mul-high-update : tie.Need-mul-high-update
+mul-high-update c = omega (arith, ihigh-most c)
 
-cast-high-update : tie.Need-cast-high-update
-cast-high-update c = search needs
+element-copy-out-high-update : tie.Need-element-copy-out-high-update
+element-copy-out-high-update c = omega (arith, ihigh-most c)
 
 high-update-requires : tie.Need-high-update-requires
 high-update-requires c κs =
-    let p = start (c .before .before .before .before .before .before .before .before .before .before) .pre in
-    (p .is-wh, p .is-rh2, p .is-ilb, omega (arith, ihigh-most (c .before .before)))
+    let s = start (c .before .before .before .before .before .before .before .before) in
+    let p = s .pre in
+    (p .is-wh, p .is-rh2, p .is-ilb, omega (arith, ihigh-most (c .before)), asks (two s refl) _ _ tt tt)
 
 mul-byte : tie.Need-mul-byte
-mul-byte c = omega (arith, ihigh-most (c .before .before .before))
+mul-byte c = omega (arith, ihigh-most (c .before .before))
 
 add-byte : tie.Need-add-byte
-add-byte c = omega (arith, ihigh-most (c .before .before .before), ilow-most (c .before .before .before .before .before .before .before .before .before .before .before))
+add-byte c = omega (arith, ihigh-most (c .before .before), ilow-most (c .before .before .before .before .before .before .before .before .before))
 
 returns : tie.Need-returns
 unfolding encodeStep lowUpdate highUpdate
 returns c =
-    let at-dhigh = c .before in
-    let at-ihigh = at-dhigh .before .before in
+    let at-ihigh = c .before .before in
     let at-eh = at-ihigh .before .before in
     let high-told = at-eh .before in
     let at-low = high-told .before .before in
-    let at-dlow = at-low .before in
-    let at-ilow = at-dlow .before .before in
+    let at-ilow = at-low .before .before in
     let at-el = at-ilow .before .before in
     let low-told = at-el .before in
     let at-xhigh = low-told .before .before in
@@ -164,10 +177,9 @@ returns c =
     let eh = ans (at-eh .saturate2 .ensures) (at1 (sub xhigh (wide-h (high-s high-told)) tt) sat) (at-eh .saturate2 .ok) in
     let ilow = at-ilow .quantl .ensures ∙ h2 el (low-det low-told) QUANTL in
     let ihigh = at-ihigh .quanth .ensures ∙ h2 eh (high-det high-told) QUANTH in
-    let dlow = ans (at-dlow .invqal .ensures) (λ t. INVQAL (readh (low-det low-told) t) (ilow t / 4)) (at-dlow .invqal .ok) in
-    let dhigh = ans (at-dhigh .invqah .ensures) (λ t. INVQAH (readh (high-det high-told) t) (ihigh t)) (at-dhigh .invqah .ok) in
-    let low = at-low .low-update .ensures ∙ λ t. updated LOGSCL SCALEL (f .low) (readh dlow t) (ilow t / 4) in
-    let high = c .high-update .ensures ∙ λ t. updated LOGSCH SCALEH (f .high) (readh dhigh t) (ihigh t) in
+    let low = at-low .low-update .ensures
+    ∙ λ t. updated LOGSCL SCALEL (f .low) (scaledBy (f .low .det) (read (four s (ap (λ (n : ℕ). n / 4) ilow)) t)) (ilow t / 4) in
+    let high = c .high-update .ensures ∙ λ t. updated LOGSCH SCALEH (f .high) (scaledBy (f .high .det) (read (two s ihigh) t)) (ihigh t) in
     λ t. record { filters = record { x = x t; low = low t; high = high t }; byte = 64 * ihigh t + ilow t }
 
 pub encode-step-spec : {M : Type 1} → statement M
@@ -185,15 +197,16 @@ encode-step-spec =
     saturate-requires
     quantl-requires
     cast-ril
-    invqal-requires
+    mul-low-update
+    element-copy-out-low-update
     low-update-requires
     cast-saturate-2
     sub-saturate-2
     saturate-requires-2
     quanth-requires
-    cast-invqah
-    invqah-requires
-    cast-high-update
+    cast-code
+    mul-high-update
+    element-copy-out-high-update
     high-update-requires
     mul-byte
     add-byte

@@ -33,7 +33,7 @@ add-clamp : tie.Need-add-clamp
 add-clamp c = search fits depth 12
 
 clamp-requires : tie.Need-clamp-requires
-clamp-requires c κs = le-asks (lit (pos 0) tt) (var (c .pre .1) tt) (c .pre .1 .low)
+clamp-requires c κs = ≤-trans _ (pos 0) _ (record { le = tt }) (le-asks (lit (pos 0) tt) (var (c .pre .1) tt) (c .pre .1 .low))
 
 cast-result : tie.Need-cast-result
 cast-result c = narrow-fits (wide (clamped c) _ _ tt tt tt)

@@ -5,9 +5,9 @@ use lib.Dec.{lit≤}
 use lib.IntN.{pos}
 use lib.ListN.{getD}
 use mathlib.Core.Path.{_∙_, refl}
-use Rattle.fixed.specs.Number.{minus}
-use Rattle.fixed.proofs.Wide.{E, asks, read}
-use Rattle.fixed.proofs.Half.{entry32, entry-most, half, readh}
+use Rattle.fixed.specs.Number.{minus, scaledBy}
+use Rattle.fixed.proofs.Wide.{E, asks, read, var}
+use Rattle.fixed.proofs.Half.{entry32, entry-most}
 use Rattle.band.specs.Tables.{WL, RL42}
 use Rattle.band.specs.Bounds.{lowNbMost}
 use Rattle.band.specs.Block4.{BLOCK4}
@@ -39,7 +39,7 @@ element-copy-out-update c = omega (arith, place (c .before))
 update-requires : tie.Need-update-requires
 update-requires c κs =
     let s = c .before .before in
-    (s .pre .2, lit≤ tt, refl, asks (step s) _ _ tt tt)
+    (s .pre .2, lit≤ tt, refl, asks (var (s .pre .4) tt) _ _ tt tt, asks (step s) _ _ tt tt)
 
 returns : tie.Need-returns
 returns c =
@@ -48,7 +48,7 @@ returns c =
     c .update .ensures
     ∙ λ t.
     let nb = LOGSC (pos lowNbMost) (k .nb) (read (step s) t) in
-    BLOCK4 k (readh (half (s .fits .d)) t) nb (SCALEL nb)
+    BLOCK4 k (scaledBy (k .det) (read (var (s .pre .4) tt) t)) nb (SCALEL nb)
 
 pub low-update-spec : {M : Type 1} → statement M
 low-update-spec =

@@ -5,8 +5,8 @@ use Rattle.fixed.specs.Number.{minus, scaledBy}
 use Rattle.fixed.proofs.Signed.{in-mul, in-shr, within}
 use Rattle.fixed.proofs.Wide.{E, asks, in16-of, narrow-fits, narrow-is, var}
 use Rattle.fixed.proofs.Half.{half, scales}
-use Rattle.band.proofs.inverse.difference.Statement.{statement}
-use Rattle.band.proofs.inverse.difference.Tie as tie
+use Rattle.band.proofs.adapt.invq.Statement.{statement}
+use Rattle.band.proofs.adapt.invq.Tie as tie
 
 -- q is less than 2^15, so the difference is one of 16 bits
 scaled : (c : tie.After-scaled) → E (minus 32768) (pos 32767) (c .scaled .result) (scaledBy (c .before .args .det) (c .before .args .q))
@@ -27,5 +27,5 @@ cast-result c = narrow-fits (scaled c)
 returns : tie.Need-returns
 returns c = narrow-is (scaled c)
 
-pub difference-spec : {M : Type 1} → statement M
-difference-spec = tie.close (tie.spec scaled-requires cast-result returns)
+pub invq-spec : {M : Type 1} → statement M
+invq-spec = tie.close (tie.spec scaled-requires cast-result returns)
