@@ -11,6 +11,7 @@ use lib.Pow.{pow-mono, shr-mono, shl-shr}
 use Rattle.fixed.specs.Number.{In}
 use Rattle.fixed.proofs.Wide.{tableN}
 use Rattle.band.specs.Tables.{ILB}
+use Rattle.band.specs.Bounds.{detMost}
 use Rattle.band.specs.Adapt.{detOf}
 
 abbrev pub shifted : ℕ → ℕ
@@ -31,7 +32,7 @@ shifted-most n base h = go (leb (n / 2048) base) refl
         let k : base < n / 2048 = nleb→lt (n / 2048) base (subst (λ (b : Bool). T (not b)) (sym e) tt) in
         top (omega arith) (omega arith)
 
-pub det-most : (n base : ℕ) → n ≤ 2048 * (base + 1) → detOf base n ≤ 16384
+pub det-most : (n base : ℕ) → n ≤ 2048 * (base + 1) → detOf base n ≤ detMost
 det-most n base h = omega (arith, shr-mono base (shifted-most n base h), shl-shr 4096 base)
 
 pub shifted-is : (n base : ℕ) → n ≤ 2048 * (base + 1) → base ≤ 10 → shifted n % 4294967296 ≡ shifted n
@@ -41,8 +42,8 @@ pub nat-in : (m : ℕ) (z : ℤ) → In (pos 0) (pos m) z → natAbs z ≤ m
 nat-in m (pos n) i = leb→le n m (i .high .le)
 nat-in m (negsuc n) i = absurd (i .low .le)
 
-pub det-in : (n base : ℕ) → n ≤ 2048 * (base + 1) → In (pos 0) (pos 16384) (pos (detOf base n))
+pub det-in : (n base : ℕ) → n ≤ 2048 * (base + 1) → In (pos 0) (pos detMost) (pos (detOf base n))
 det-in n base h = record {
   low = record { le = le→leb 0 (detOf base n) zero-le };
-  high = record { le = le→leb (detOf base n) 16384 (det-most n base h) };
+  high = record { le = le→leb (detOf base n) detMost (det-most n base h) };
 }

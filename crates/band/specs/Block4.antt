@@ -23,7 +23,7 @@ UPPOL2 a1 a2 p0 p1 p2 =
     clampZ (minus a2Most) (pos a2Most)
     (shrZ turned 128 +ℤ cond (sameSign p0 p2) (pos 128) (minus 128) +ℤ scaledBy a2 (pos 32512))
 
--- so does the first, by two, within 15360 less ap2, which UPPOL2 gave
+-- so does the first by the signs of two, within what is left beside ap2, which UPPOL2 gave
 abbrev pub UPPOL1 : ℤ → ℤ → ℤ → ℤ → ℤ
 UPPOL1 a1 ap2 p0 p1 =
     let m = sat (pos a1AndA2Most -ℤ ap2) in

@@ -86,17 +86,10 @@ mag-shr-is : (z : ℤ) (m : ℕ) → mag (shrZ z m) ≡ mag z / m
 mag-shr-is (pos a) m = refl
 mag-shr-is (negsuc a) m = refl
 
--- by 2 ^ j, j a numeral
-shr-at : (j k : ℕ) (z : ℤ) → Sz (k + j) z → Sz k (shrZ z (2 ^ j))
-shr-at j k z a =
-    let small : mag z < 2 ^ k * 2 ^ j = subst (λ (n : ℕ). mag z < n) (pow-add 2 k j) (a .sz) in
-    record { sz = rw (mag-shr-is z (2 ^ j)) (div-lt-iff-lt-mul (pow-pos j) .1 small) }
-
-pub sz-shr15 : (k : ℕ) (z : ℤ) → Sz (k + 15) z → Sz k (shrZ z 32768)
-sz-shr15 k z a = shr-at 15 k z a
-
 pub sz-shr7 : (k : ℕ) (z : ℤ) → Sz (k + 7) z → Sz k (shrZ z 128)
-sz-shr7 k z a = shr-at 7 k z a
+sz-shr7 k z a =
+    let small : mag z < 2 ^ k * 128 = subst (λ (n : ℕ). mag z < n) (pow-add 2 k 7) (a .sz) in
+    record { sz = rw (mag-shr-is z 128) (div-lt-iff-lt-mul (pow-pos 7) .1 small) }
 
 pub ruleset fits = (
   tt,
@@ -105,7 +98,6 @@ pub ruleset fits = (
   sfits-shr,
   widen-fits,
   sz-rd,
-  sz-shr15,
   sz-shr7,
   sz-mul-rd,
   sz-mul-lit-rd,

@@ -1,7 +1,7 @@
 -- A number that is turned by two signs is turned where they differ.
 use Prim.Native.Nat.{ℕ, zero-le}
 use mathlib.Core.Bool.{false, cond}
-use mathlib.Core.Path.{_≡_, _∙_, refl, sym, ap}
+use mathlib.Core.Path.{_≡_, _∙_, sym, ap}
 use lib.Dec.{le→leb}
 use lib.IntN.{ℤ, pos, negsuc, negℤ, negℤ-negℤ}
 use lib.Signed.{ltZ}

@@ -52,7 +52,7 @@ pub fn decode_step(
     let ril = ilow / 4;
     let low = f.low;
     let high = f.high;
-    // All six bits for what is given out, the upper four for the predictor
+    // All six bits for what is given out, the upper four for the predictor.
     let q_of_six = qm6[ilow];
     let q_of_four = qm4[ril];
     // Block 5L, INVQBL and RECONS

@@ -12,7 +12,6 @@ use lib.ListN.{getD}
 use mir.Syntax.{w16}
 use mir.Val.{Val, SFits, toZ, ofZ}
 use mir.Facts.{toZ-ofZ}
-use Rattle.mark.specs.Numbers.{bandOf}
 use Rattle.mark.proofs.flat.band_of.Statement.{statement}
 use Rattle.mark.proofs.flat.band_of.Tie as tie
 
