@@ -38,7 +38,7 @@ use Rattle.border.proofs.Laws.{CallLaws}
 use Rattle.border.proofs.Numbers.{tests-in-order, two-bytes-each, start-begins}
 
 call-number-at : (rate : ℕ) (h input out next : List ℕ)
-    → callNumber 0 false (decoding .numberAt rate h input (length out / 2)) (length next) ≡ numberAt decoderCalls rate h input out next
+    → callNumber 0 (decoding .numberAt rate h input (length out / 2)) (length next) ≡ numberAt decoderCalls rate h input out next
 unfolding numberAt
 call-number-at rate h input out next =
     rw (length-append h input, decoder-moves-cut rate (length h) (length input), two-bytes-each (length out) (decodeRoom rate (length input)))
@@ -47,7 +47,7 @@ call-number-at rate h input out next =
 
 code-number : (line input out next : List ℕ) (rate start : ℕ) (h : List ℕ) → let s = decoderAfter (fresh decoding rate start) h in
     decoding .restore (fresh decoding 16000 0) line ≡ doneWith s → decoding .InBounds s
-    → decodeCallNumber line input out next ≡ callNumber 0 false (decoding .numberAt rate h input (length out / 2)) (length next)
+    → decodeCallNumber line input out next ≡ callNumber 0 (decoding .numberAt rate h input (length out / 2)) (length next)
 unfolding decodeCallNumber decoderOf
 code-number line input out next rate start h e i =
     let n = ap (λ (r : Reply Decoder). r .number) e in

@@ -13,7 +13,7 @@ use Rattle.g722.specs.declared.Encoder.{Encoder}
 use Rattle.runs.specs.Rates.{encodeRoom, oddAt}
 use Rattle.g722.specs.Session.{encoderMoves}
 use Rattle.g722.specs.Session.{positionMost}
-use Rattle.g722.specs.Encoding.{encoderBegun, encoderInBounds, encoderAfter, encodedBytes}
+use Rattle.g722.specs.Encoding.{encoderBegun, encoderInBounds, encoderAfter, encodedBytes, encodeFromBytesNumber}
 use Rattle.g722.proofs.Cut.{encoded-length}
 use Rattle.text.proofs.Tests.{either}
 use Rattle.line.specs.Letters.{LETTER-E}
@@ -41,7 +41,7 @@ abbrev half : List ℕ → Bool
 half input = not (eqb (length input % 2) 0)
 
 call-number-at : (rate : ℕ) (h : List ℤ) (input out next : List ℕ)
-    → callNumber 0 (half input) (encoding .numberAt rate h (samples input) (length out)) (length next)
+    → callNumber 0 (cond (half input) oddCount (encoding .numberAt rate h (samples input) (length out))) (length next)
     ≡ numberAt encoderCalls rate h input out next
 unfolding numberAt encoderMoves
 call-number-at rate h input out next =
@@ -51,12 +51,12 @@ call-number-at rate h input out next =
 
 code-number : (line input out next : List ℕ) (rate start : ℕ) (h : List ℤ) → let s = encoderAfter (fresh encoding rate start) h in
     encoding .restore (fresh encoding 16000 0) line ≡ doneWith s → encoding .InBounds s
-    → encodeCallNumber line input out next ≡ callNumber 0 (half input) (encoding .numberAt rate h (samples input) (length out)) (length next)
-unfolding encodeCallNumber encoderOf
+    → encodeCallNumber line input out next ≡ callNumber 0 (cond (half input) oddCount (encoding .numberAt rate h (samples input) (length out))) (length next)
+unfolding encodeCallNumber encodeFromBytesNumber encoderOf
 code-number line input out next rate start h e i =
     let n = ap (λ (r : Reply Encoder). r .number) e in
     let s = ap (λ (r : Reply Encoder). r .session) e in
-    rw (n, s, ← length-samples input, number-at rate start h (samples input) (length out) (i .1))
+    rw (n, s, i .1, ← length-samples input, number-at rate start h (samples input) (length out) (i .1))
 
 counted : (rate start : ℕ) (h : List ℤ) (input : List ℕ)
     → length (encodedBytes (encoderAfter (fresh encoding rate start) h) (samples input)) ≡ encodeRoom rate (length input / 2)

@@ -39,11 +39,11 @@ pub record CallLaws {k : Kind} (c : CCalls k) : Type 0 where
   pub half : List ℕ → Bool
   pub room : ℕ → ℕ
   pub number-at : (rate : ℕ) (h : List (k .Item)) (input out next : List ℕ)
-      → callNumber 0 (half input) (k .numberAt rate h (c .input input) (room (length out))) (length next) ≡ numberAt c rate h input out next
+      → callNumber 0 (cond (half input) oddCount (k .numberAt rate h (c .input input) (room (length out)))) (length next) ≡ numberAt c rate h input out next
   pub code-number : (line input out next : List ℕ) (rate start : ℕ) (h : List (k .Item))
       → let s = k .after (fresh k rate start) h in k .restore (fresh k 16000 0) line ≡ doneWith s → k .InBounds s
       → c .number line input out next
-      ≡ callNumber 0 (half input) (k .numberAt rate h (c .input input) (room (length out))) (length next)
+      ≡ callNumber 0 (cond (half input) oddCount (k .numberAt rate h (c .input input) (room (length out)))) (length next)
   pub code-out : (line input out next : List ℕ) → c .out line input out next
       ≡ leaves (c .number line input out next) (c .asBytes (k .output (k .restore (fresh k 16000 0) line .session) (itemsOf c input))) out
   pub code-mark : (line input out next : List ℕ) → c .mark line input out next

@@ -2,7 +2,7 @@
 use Prim.Native.Nat.{ℕ, _≤_, _<_, _^_}
 use native.Mathlib.Omega.{arith}
 use mathlib.Core.Path.{_≡_, refl, sym, ap, subst, _∙_}
-use mathlib.Core.Bool.{Bool, true, false, not, _||_}
+use mathlib.Core.Bool.{Bool, true, false, cond, not, _||_}
 use mathlib.Core.List.{List, [], _∷_, _++_, append-assoc, append-nil}
 use mathlib.Core.Logic.{_↔_}
 use lib.Dec.{eqb, ltb}
@@ -103,8 +103,8 @@ module _ {k : Kind} (l : Laws k) {c : CCalls k} (o : CallLaws c) where
           let q = passed (short || small) noRoom _ (λ t z. omega (arith, z)) (p .1) in
           ltb-false _ _ (neither short small (q .0))
 
-      passes : Taken 0 (o .half input) (k .numberAt rate h (c .input input) (o .room (length out))) (length next)
-      passes = taken _ _ _ _ (o .number-at rate h input out next ∙ allowed)
+      passes : Taken 0 (cond (o .half input) oddCount (k .numberAt rate h (c .input input) (o .room (length out)))) (length next)
+      passes = taken _ _ _ (o .number-at rate h input out next ∙ allowed)
 
       -- the bytes that the run gives out next
       abbrev bytes : List ℕ
@@ -124,7 +124,9 @@ module _ {k : Kind} (l : Laws k) {c : CCalls k} (o : CallLaws c) where
       room = replicate (o .room (length out)) (o .blank)
 
       codes : k .code there (c .input input) (length room) .number ≡ 0
-      codes = rw (length-replicate (o .room (length out)) (o .blank)) (hs .unbroken lives .answers (c .input input) _ ∙ passes .codes)
+      codes =
+          let whole = passed (o .half input) oddCount _ (λ t z. omega (arith, z)) (passes .codes) in
+          rw (length-replicate (o .room (length out)) (o .blank)) (hs .unbroken lives .answers (c .input input) _ ∙ whole .1)
 
       module _ (b : Bytes input) where
         abbrev call : life.Call k there (itemsOf c input) (life.givenBy k there (c .input input) room) (k .code there (c .input input) (length room) .session)

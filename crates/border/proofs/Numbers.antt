@@ -11,16 +11,16 @@ use Rattle.text.proofs.Tests.{Test, yes!, no!, test}
 use Rattle.calls.specs.G722.{callNumber}
 
 pub tests-in-order : (half odd short past : Bool) (room : ℕ)
-    → callNumber 0 half (cond odd oddCount (cond short noRoom (cond past positionPastEnd done))) room
+    → callNumber 0 (cond half oddCount (cond odd oddCount (cond short noRoom (cond past positionPastEnd done)))) room
     ≡ cond (half || odd) oddCount (cond (short || ltb room 512) noRoom (cond past positionPastEnd done))
 unfolding callNumber
 tests-in-order half odd short past room = go half odd short (ltb room 512) past
   where
-    coded : Bool → Bool → Bool → ℕ
-    coded odd short past = cond odd oddCount (cond short noRoom (cond past positionPastEnd done))
+    coded : Bool → Bool → Bool → Bool → ℕ
+    coded half odd short past = cond half oddCount (cond odd oddCount (cond short noRoom (cond past positionPastEnd done)))
 
     go : (half odd short small past : Bool)
-        → cond half oddCount (cond (eqb (coded odd short past) oddCount) oddCount (cond small noRoom (coded odd short past)))
+        → cond (eqb (coded half odd short past) oddCount) oddCount (cond small noRoom (coded half odd short past))
         ≡ cond (half || odd) oddCount (cond (short || small) noRoom (cond past positionPastEnd done))
     go true odd short small past = refl
     go false true short small past = refl

@@ -9,11 +9,10 @@ use borrow.Author.Tests.{eqb-true}
 use Rattle.answers.specs.Numbers.{done, outOfBounds, oddCount, noRoom}
 use Rattle.samples.specs.Lent.{fromBytesNumber, toBytesNumber}
 use Rattle.runs.specs.Rates.{encodeRoom, decodeRoom, oddAt}
-use Rattle.g722.specs.Session.{encoderMoves, decoderMoves}
-use Rattle.g722.specs.Session.{positionMost, beginNumber}
+use Rattle.g722.specs.Session.{positionMost, encoderMoves, decoderMoves, beginNumber}
 use Rattle.g722.specs.declared.Encoder.{Encoder}
 use Rattle.g722.specs.declared.Decoder.{Decoder}
-use Rattle.g722.specs.Encoding.{encoderBegun, encoderInBounds, encodeNumber}
+use Rattle.g722.specs.Encoding.{encoderBegun, encoderInBounds, encodeNumber, encodeFromBytesNumber}
 use Rattle.g722.specs.Decoding.{decoderBegun, decoderInBounds, decodeNumber}
 use Rattle.g722.proofs.Sound.{encoder-begun-in, decoder-begun-in}
 use Rattle.text.proofs.Tests.{Test, yes!, no!, test, false-is-true, either}
@@ -51,30 +50,24 @@ decoder-begin-answers rate start mark = begin-answers start _ mark
 
 -- ---- coding
 
--- what holds of restore's number, of the coder's and of 4, and of 3 where a sample can be half
-call-holds : (P : ℕ → Type 0) (restored : ℕ) (half : Bool) (coded room : ℕ) → P restored → (half ≡ true → P oddCount) → P noRoom → P coded
-    → P (callNumber restored half coded room)
+-- what holds of restore's number, of the coder's and of 4
+call-holds : (P : ℕ → Type 0) (restored coded room : ℕ) → P restored → P noRoom → P coded → P (callNumber restored coded room)
 unfolding callNumber
-call-holds P restored half coded room r three four c = either P (not (eqb restored done)) r (of-half (test half))
+call-holds P restored coded room r four c = either P (not (eqb restored done)) r (of-code (test (eqb coded oddCount)))
   where
-    rest : ℕ
-    rest = cond (eqb coded oddCount) oddCount (cond (ltb room 512) noRoom coded)
-
-    of-code : Test (eqb coded oddCount) → P rest
+    of-code : Test (eqb coded oddCount) → P (cond (eqb coded oddCount) oddCount (cond (ltb room 512) noRoom coded))
     of-code (yes! e) = rw e (rw (eqb-true coded oddCount e) at c)
     of-code (no! e) = rw e (either P (ltb room 512) four c)
 
-    of-half : Test half → P (cond half oddCount rest)
-    of-half (yes! e) = rw e (three e)
-    of-half (no! e) = rw e (of-code (test (eqb coded oddCount)))
-
-encode-number : (s : Encoder) (n room : ℕ) → encoderInBounds s ≡ true → OneOf encodeAnswers (encodeNumber s n room)
-unfolding encodeNumber
+encode-number : (s : Encoder) (n room : ℕ) → encoderInBounds s ≡ true → OneOf encodeAnswers (encodeFromBytesNumber s n room)
+unfolding encodeFromBytesNumber encodeNumber
 encode-number s n room e =
+    let P : ℕ → Type 0 = OneOf encodeAnswers in
     rw e
-    (either (OneOf encodeAnswers) (oddAt (s .rate) n) refl
-    (either (OneOf encodeAnswers) (ltb room (encodeRoom (s .rate) n)) refl
-    (either (OneOf encodeAnswers) (ltb positionMost (s .position + encoderMoves (s .rate) n)) refl refl)))
+    (either P (not (eqb (n % 2) 0)) refl
+    (either P (oddAt (s .rate) (n / 2)) refl
+    (either P (ltb room (encodeRoom (s .rate) (n / 2))) refl
+    (either P (ltb positionMost (s .position + encoderMoves (s .rate) (n / 2))) refl refl))))
 
 pub encode-answers : (mark input out next : List ℕ) → OneOf encodeAnswers (encodeCallNumber mark input out next)
 unfolding encodeCallNumber encoderOf
@@ -83,8 +76,8 @@ encode-answers mark input out next =
     let r = encoder-restored (encoderBegun 16000 0 .session) mark i
     (λ a. OneOf encodeAnswers (a .number) × (encoderInBounds (a .session) ≡ true)) (λ t j. (refl, j)) (refl, i) (refl, i) (refl, i) in
     let s = encoderOf mark .session in
-    call-holds (OneOf encodeAnswers) (encoderOf mark .number) (not (eqb (length input % 2) 0)) (encodeNumber s (length input / 2) (length out)) _
-    (r .0) (λ e. refl) refl (encode-number s (length input / 2) (length out) (r .1))
+    call-holds (OneOf encodeAnswers) (encoderOf mark .number) (encodeFromBytesNumber s (length input) (length out)) _
+    (r .0) refl (encode-number s (length input) (length out) (r .1))
 
 decode-number : (s : Decoder) (n room : ℕ) → decoderInBounds s ≡ true → OneOf decodeAnswers (decodeNumber s n room)
 unfolding decodeNumber
@@ -100,8 +93,8 @@ decode-answers mark input out next =
     let r = decoder-restored (decoderBegun 16000 0 .session) mark i
     (λ a. OneOf decodeAnswers (a .number) × (decoderInBounds (a .session) ≡ true)) (λ t j. (refl, j)) (refl, i) (refl, i) (refl, i) in
     let s = decoderOf mark .session in
-    call-holds (OneOf decodeAnswers) (decoderOf mark .number) false (decodeNumber s (length input) (length out / 2)) _
-    (r .0) (λ e. false-is-true e) refl (decode-number s (length input) (length out / 2) (r .1))
+    call-holds (OneOf decodeAnswers) (decoderOf mark .number) (decodeNumber s (length input) (length out / 2)) _
+    (r .0) refl (decode-number s (length input) (length out / 2) (r .1))
 
 -- ---- none of the lists has 2
 

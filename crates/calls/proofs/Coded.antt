@@ -2,22 +2,22 @@
 use mathlib.Core.Bool.{Bool, true, false, cond, not}
 use mathlib.Core.List.{List}
 use mathlib.Core.Path.{_≡_, refl, sym, ap, _∙_}
-use Prim.Native.Nat.{ℕ, _/_, _%_, _≤_}
+use Prim.Native.Nat.{ℕ, _/_, _≤_}
 use native.Mathlib.Omega.{arith}
 use lib.Dec.{eqb, ltb}
 use lib.ListN.{length}
 use lib.Seq.{sets}
-use borrow.Author.Tests.{eqb-true, eqb-false, ne-eqb, ltb-false, not-true, not-false}
+use borrow.Author.Tests.{eqb-false, ne-eqb, ltb-false, not-true}
 use Rattle.answers.specs.Numbers.{done, oddCount, noRoom}
 use Rattle.samples.specs.Bytes.{samples, bytes}
 use Rattle.samples.proofs.Bytes.{length-samples}
 use Rattle.band.specs.Bounds.{allWords}
 use Rattle.g722.specs.declared.EncoderAnswer.{EncoderAnswer}
 use Rattle.g722.specs.declared.DecoderAnswer.{DecoderAnswer}
-use Rattle.g722.specs.Encoding.{encoderAfter, encodedBytes, encodeNumber, encodeFromBytesAnswer, encodeFromBytesOut}
+use Rattle.g722.specs.Encoding.{encoderAfter, encodedBytes, encodeFromBytesNumber, encodeFromBytesAnswer, encodeFromBytesOut}
 use Rattle.g722.specs.Decoding.{decoderAfter, decodedSamples, decodeNumber, decodeToBytesAnswer, decodeToBytesOut}
 use Rattle.g722.proofs.AsBytes.{encoded-from-bytes, decoded-to-bytes}
-use Rattle.g722.proofs.Numbers.{encode-taken, decode-taken}
+use Rattle.g722.proofs.Numbers.{from-bytes-taken, decode-taken}
 use Rattle.g722.proofs.Sound.{encoder-after-in, decoder-after-in}
 use Rattle.mark.specs.Answer.{rateMost, writeAnswer, writeOut}
 use Rattle.mark.specs.Marks.{encoderWriteAnswer, encoderWriteOut, decoderWriteAnswer, decoderWriteOut}
@@ -31,19 +31,17 @@ passed true k rest h e = absurd (h refl e)
 passed false k rest h e = (refl, e)
 
 -- what the tests say that were passed
-pub record Taken (restored : ℕ) (half : Bool) (coded room : ℕ) : Type 0 where
-  pub whole : half ≡ false
+pub record Taken (restored coded room : ℕ) : Type 0 where
   pub codes : coded ≡ done
   pub roomy : 512 ≤ room
 
-pub taken : (restored : ℕ) (half : Bool) (coded room : ℕ) → callNumber restored half coded room ≡ done → Taken restored half coded room
+pub taken : (restored coded room : ℕ) → callNumber restored coded room ≡ done → Taken restored coded room
 unfolding callNumber
-taken restored half coded room e =
+taken restored coded room e =
     let a = passed (not (eqb restored done)) restored _ (λ t. eqb-false restored done (not-true _ t)) e in
-    let b = passed half oddCount _ (λ t z. omega (arith, z)) (a .1) in
-    let c = passed (eqb coded oddCount) oddCount _ (λ t z. omega (arith, z)) (b .1) in
-    let d = passed (ltb room 512) noRoom _ (λ t z. omega (arith, z)) (c .1) in
-    record { whole = b .0; codes = d .1; roomy = ltb-false room 512 (d .0) }
+    let b = passed (eqb coded oddCount) oddCount _ (λ t z. omega (arith, z)) (a .1) in
+    let c = passed (ltb room 512) noRoom _ (λ t z. omega (arith, z)) (b .1) in
+    record { codes = c .1; roomy = ltb-false room 512 (c .0) }
 
 -- ---- encoders
 
@@ -51,8 +49,8 @@ taken restored half coded room e =
 pub record EncodeCall (mark input out next : List ℕ) (r : EncoderAnswer) (k : ℕ) : Type 0 where
   pub restored : r ≡ encoderOf mark
   pub coded : ℕ
-  pub coded-is : coded ≡ encodeNumber (r .session) (length input / 2) (length out)
-  pub number-is : k ≡ callNumber (r .number) (not (eqb (length input % 2) 0)) coded (length next)
+  pub coded-is : coded ≡ encodeFromBytesNumber (r .session) (length input) (length out)
+  pub number-is : k ≡ callNumber (r .number) coded (length next)
 
 -- the answer k, and what is left in both buffers
 abbrev EncodeCallAnswer : (mark input out next : List ℕ) → ℕ → List ℕ → List ℕ → Type 0
@@ -72,18 +70,18 @@ module _ {mark input out next : List ℕ} {r : EncoderAnswer} {k : ℕ} (call : 
       (encode-number, (rw (← encode-number, e), rw (← encode-number, e)))
 
   module _ (is-done : k ≡ done) where
-    encode-passed : Taken (r .number) (not (eqb (length input % 2) 0)) (call .coded) (length next)
-    encode-passed = taken _ _ (call .coded) (length next) (sym (call .number-is) ∙ is-done)
+    encode-passed : Taken (r .number) (call .coded) (length next)
+    encode-passed = taken _ (call .coded) (length next) (sym (call .number-is) ∙ is-done)
 
-    encode-asks : (length input % 2 ≡ 0) × (encodeNumber (r .session) (length input / 2) (length out) ≡ done)
-    encode-asks = (eqb-true _ _ (not-false _ (encode-passed .whole)), sym (call .coded-is) ∙ encode-passed .codes)
+    encodes : encodeFromBytesNumber (r .session) (length input) (length out) ≡ done
+    encodes = sym (call .coded-is) ∙ encode-passed .codes
 
     -- the samples are encoded, and the new mark is written: 512 bytes hold it
     module _ (words : allWords (samples input) ≡ true) (fits : r .session .rate ≤ rateMost) {a : EncoderAnswer}
         (answer : a ≡ encodeFromBytesAnswer (r .session) input (length out)) where
       encoded : (encodeFromBytesAnswer (r .session) input (length out) .session ≡ encoderAfter (r .session) (samples input))
           × (encodeFromBytesOut (r .session) input out ≡ sets out 0 (encodedBytes (r .session) (samples input)))
-      encoded = encoded-from-bytes (r .session) input (encode-asks .0) out (encode-asks .1)
+      encoded = encoded-from-bytes (r .session) input out encodes
 
       encoder-after-is : a .session ≡ encoderAfter (r .session) (samples input)
       encoder-after-is = ap (λ (x : EncoderAnswer). x .session) answer ∙ encoded .0
@@ -92,7 +90,7 @@ module _ {mark input out next : List ℕ} {r : EncoderAnswer} {k : ℕ} (call : 
       unfolding encoderAfter
       encoder-mark =
           let s = r .session in
-          let e = encode-taken s (length input / 2) (length out) (encode-asks .1) in
+          let e = from-bytes-taken s input out encodes .1 in
           let moved = rw (← length-samples input) at (e .not-past) in
           let inside = encoder-after-in s (samples input) words moved (e .inside) in
           rw encoder-after-is (encoder-writes (encoderAfter s (samples input)) fits inside (length next) (encode-passed .roomy))
@@ -115,7 +113,7 @@ pub record DecodeCall (mark input out next : List ℕ) (r : DecoderAnswer) (k : 
   pub restored : r ≡ decoderOf mark
   pub coded : ℕ
   pub coded-is : coded ≡ decodeNumber (r .session) (length input) (length out / 2)
-  pub number-is : k ≡ callNumber (r .number) false coded (length next)
+  pub number-is : k ≡ callNumber (r .number) coded (length next)
 
 -- the answer k, and what is left in both buffers
 abbrev DecodeCallAnswer : (mark input out next : List ℕ) → ℕ → List ℕ → List ℕ → Type 0
@@ -135,17 +133,17 @@ module _ {mark input out next : List ℕ} {r : DecoderAnswer} {k : ℕ} (call : 
       (decode-number, (rw (← decode-number, e), rw (← decode-number, e)))
 
   module _ (is-done : k ≡ done) where
-    decode-passed : Taken (r .number) false (call .coded) (length next)
-    decode-passed = taken _ _ (call .coded) (length next) (sym (call .number-is) ∙ is-done)
+    decode-passed : Taken (r .number) (call .coded) (length next)
+    decode-passed = taken _ (call .coded) (length next) (sym (call .number-is) ∙ is-done)
 
-    decode-asks : decodeNumber (r .session) (length input) (length out / 2) ≡ done
-    decode-asks = sym (call .coded-is) ∙ decode-passed .codes
+    decodes : decodeNumber (r .session) (length input) (length out / 2) ≡ done
+    decodes = sym (call .coded-is) ∙ decode-passed .codes
 
     module _ (fits : r .session .rate ≤ rateMost) {a : DecoderAnswer}
         (answer : a ≡ decodeToBytesAnswer (r .session) input (length out)) where
       decoded : (decodeToBytesAnswer (r .session) input (length out) .session ≡ decoderAfter (r .session) input)
           × (decodeToBytesOut (r .session) input out ≡ sets out 0 (bytes (decodedSamples (r .session) input)))
-      decoded = decoded-to-bytes (r .session) input out decode-asks
+      decoded = decoded-to-bytes (r .session) input out decodes
 
       decoder-after-is : a .session ≡ decoderAfter (r .session) input
       decoder-after-is = ap (λ (x : DecoderAnswer). x .session) answer ∙ decoded .0
@@ -154,7 +152,7 @@ module _ {mark input out next : List ℕ} {r : DecoderAnswer} {k : ℕ} (call : 
       unfolding decoderAfter
       decoder-mark =
           let s = r .session in
-          let e = decode-taken s (length input) (length out / 2) decode-asks in
+          let e = decode-taken s (length input) (length out / 2) decodes in
           let inside = decoder-after-in s input (e .not-past) (e .inside) in
           rw decoder-after-is (decoder-writes (decoderAfter s input) fits inside (length next) (decode-passed .roomy))
 

@@ -1,7 +1,7 @@
 -- What the G.722 calls answer, and what they leave in the lent buffers (docs/RULES.md, "C calls"): the number first, then the rest by it.
-use mathlib.Core.Bool.{Bool, false, cond, not}
+use mathlib.Core.Bool.{cond, not}
 use mathlib.Core.List.{List}
-use Prim.Native.Nat.{ℕ, _/_, _%_}
+use Prim.Native.Nat.{ℕ, _/_}
 use lib.Dec.{eqb, ltb}
 use lib.ListN.{length}
 use Rattle.answers.specs.Numbers.{done, oddCount, noRoom}
@@ -9,18 +9,17 @@ use Rattle.answers.specs.Lent.{leaves, roomNumber}
 use Rattle.samples.specs.Bytes.{samples, bytes}
 use Rattle.g722.specs.declared.EncoderAnswer.{EncoderAnswer}
 use Rattle.g722.specs.declared.DecoderAnswer.{DecoderAnswer}
-use Rattle.g722.specs.Encoding.{encoderBegun, encoderAfter, encodedBytes, encodeNumber}
+use Rattle.g722.specs.Encoding.{encoderBegun, encoderAfter, encodedBytes, encodeFromBytesNumber}
 use Rattle.g722.specs.Decoding.{decoderBegun, decoderAfter, decodedSamples, decodeNumber}
 use Rattle.mark.specs.Marks.{encoderLine, encoderRestoreAnswer, decoderLine, decoderRestoreAnswer}
 
--- restore's refusals, then the coder's in its order; half a sample is 3, and fewer than 512 bytes for the new mark are 4
-unfoldable pub callNumber : ℕ → Bool → ℕ → ℕ → ℕ
-callNumber restored half coded markRoom =
+-- restore's refusals, then the coder's in its order; fewer than 512 bytes for the new mark are 4
+unfoldable pub callNumber : ℕ → ℕ → ℕ → ℕ
+callNumber restored coded markRoom =
     cond (not (eqb restored done)) restored
-    (cond half oddCount
     (cond (eqb coded oddCount) oddCount
     (cond (ltb markRoom 512) noRoom
-    coded)))
+    coded))
 
 -- a start that is refused, then too little room for the line
 unfoldable pub beginCallNumber : ℕ → List ℕ → List ℕ → ℕ
@@ -35,7 +34,7 @@ encoderOf mark = encoderRestoreAnswer (encoderBegun 16000 0 .session) mark
 unfoldable pub encodeCallNumber : List ℕ → List ℕ → List ℕ → List ℕ → ℕ
 encodeCallNumber mark input out newMark =
     let r = encoderOf mark in
-    callNumber (r .number) (not (eqb (length input % 2) 0)) (encodeNumber (r .session) (length input / 2) (length out)) (length newMark)
+    callNumber (r .number) (encodeFromBytesNumber (r .session) (length input) (length out)) (length newMark)
 
 unfoldable pub encodeCallOut : List ℕ → List ℕ → List ℕ → List ℕ → List ℕ
 encodeCallOut mark input out newMark =
@@ -59,7 +58,7 @@ decoderOf mark = decoderRestoreAnswer (decoderBegun 16000 0 .session) mark
 unfoldable pub decodeCallNumber : List ℕ → List ℕ → List ℕ → List ℕ → ℕ
 decodeCallNumber mark input out newMark =
     let r = decoderOf mark in
-    callNumber (r .number) false (decodeNumber (r .session) (length input) (length out / 2)) (length newMark)
+    callNumber (r .number) (decodeNumber (r .session) (length input) (length out / 2)) (length newMark)
 
 unfoldable pub decodeCallOut : List ℕ → List ℕ → List ℕ → List ℕ → List ℕ
 decodeCallOut mark input out newMark =

@@ -50,15 +50,12 @@ const FRESH_RATE: u32 = 16000;
 // The bytes that must be lent for a new mark, however long its line is.
 const MARK_ROOM: usize = Encoder::MARK_LENGTH_MOST;
 
-// The number of a G.722 call, from restore's, from whether a sample lacks its second byte, and from the coder's.
-fn call_number(restored: u8, half: bool, coded: u8, room: usize) -> u8
-    ensures { λ r. ⌜ r ≡ callNumber restored half coded room ⌝ }
+// The number of a G.722 call, from restore's, from the coder's and from the room for the new mark.
+fn call_number(restored: u8, coded: u8, room: usize) -> u8
+    ensures { λ r. ⌜ r ≡ callNumber restored coded room ⌝ }
 {
     if restored != answers::DONE {
         return restored;
-    }
-    if half {
-        return answers::ODD_COUNT;
     }
     if coded == answers::ODD_COUNT {
         return answers::ODD_COUNT;
@@ -90,8 +87,8 @@ pub extern "C" fn rozimaha_g722_encode(
 {
     let restored = encoder_of(mark);
     let session = restored.session;
-    let coded = session.encode_number(input.len() / 2, out.len());
-    let number = call_number(restored.number, input.len() % 2 != 0, coded, next.len());
+    let encoders = session.encode_from_bytes_number(input.len(), out.len());
+    let number = call_number(restored.number, encoders, next.len());
     if number != answers::DONE {
         return number as u32;
     }
@@ -120,8 +117,8 @@ pub extern "C" fn rozimaha_g722_decode(
 {
     let restored = decoder_of(mark);
     let session = restored.session;
-    let coded = session.decode_number(input.len(), out.len() / 2);
-    let number = call_number(restored.number, false, coded, next.len());
+    let decoders = session.decode_number(input.len(), out.len() / 2);
+    let number = call_number(restored.number, decoders, next.len());
     if number != answers::DONE {
         return number as u32;
     }

@@ -1,33 +1,26 @@
 -- A call on samples as bytes is the call on those samples: number, count, session, and what is left as bytes.
-use mathlib.Core.Bool.{Bool, true, false, cond, not}
+use mathlib.Core.Bool.{Bool, true, false, cond, and-false}
 use mathlib.Core.List.{List}
-use mathlib.Core.Path.{_≡_, refl, sym, ap, _∙_}
+use mathlib.Core.Path.{_≡_, refl}
 use Prim.Native.Nat.{ℕ, _*_, _/_, _%_}
 use lib.Dec.{eqb}
 use lib.ListN.{length}
 use lib.Seq.{sets}
 use borrow.Author.Tests.{eq-eqb}
-use Rattle.answers.specs.Numbers.{done, outOfBounds}
+use Rattle.answers.specs.Numbers.{done}
 use Rattle.samples.specs.Bytes.{samples, bytes}
 use Rattle.samples.proofs.Bytes.{length-samples}
 use Rattle.g722.specs.declared.Encoder.{Encoder}
-use Rattle.g722.specs.declared.EncoderAnswer.{EncoderAnswer}
 use Rattle.g722.specs.declared.Decoder.{Decoder}
 use Rattle.g722.specs.declared.DecoderAnswer.{DecoderAnswer}
 use Rattle.g722.specs.Encoding.{encoderInBounds, encoderAfter, encodedBytes, encodeNumber, encodeAnswer, encodeOut}
 use Rattle.g722.specs.Encoding.{encodeFromBytesNumber, encodeFromBytesAnswer, encodeFromBytesOut}
 use Rattle.g722.specs.Decoding.{decoderReply, decoderAfter, decodedSamples, decodeNumber, decodeAnswer, decodeToBytesAnswer, decodeToBytesOut}
-use Rattle.g722.proofs.Numbers.{encode-done}
-
--- a session outside its bounds is refused first in either call
-twice : (inside : Bool) (rest : ℕ) → cond (not inside) outOfBounds (cond (not inside) outOfBounds rest) ≡ cond (not inside) outOfBounds rest
-twice true rest = refl
-twice false rest = refl
 
 module _ (s : Encoder) (input : List ℕ) (even : length input % 2 ≡ 0) where
   number-is : (room : ℕ) → encodeFromBytesNumber s (length input) room ≡ encodeNumber s (length (samples input)) room
-  unfolding encodeFromBytesNumber encodeNumber
-  number-is room = rw (eq-eqb (length input % 2) 0 even, length-samples input) (twice (encoderInBounds s) _)
+  unfolding encodeFromBytesNumber
+  number-is room = rw (eq-eqb (length input % 2) 0 even, and-false (encoderInBounds s), length-samples input)
 
   pub encode-from-bytes-is : (room : ℕ) → encodeFromBytesAnswer s input room ≡ encodeAnswer s (samples input) room
   unfolding encodeFromBytesAnswer encodeAnswer
@@ -37,12 +30,12 @@ module _ (s : Encoder) (input : List ℕ) (even : length input % 2 ≡ 0) where
   unfolding encodeFromBytesOut encodeOut
   encode-from-bytes-leaves out = rw (number-is (length out))
 
-  pub encoded-from-bytes : (out : List ℕ) → encodeNumber s (length input / 2) (length out) ≡ done
-      → (encodeFromBytesAnswer s input (length out) .session ≡ encoderAfter s (samples input))
-      × (encodeFromBytesOut s input out ≡ sets out 0 (encodedBytes s (samples input)))
-  encoded-from-bytes out e =
-      let d = encode-done s (samples input) out (rw (length-samples input) e) in
-      (ap (λ (a : EncoderAnswer). a .session) (encode-from-bytes-is (length out) ∙ sym (d .0)), encode-from-bytes-leaves out ∙ sym (d .1))
+-- what a call that is done comes to
+pub encoded-from-bytes : (s : Encoder) (input out : List ℕ) → encodeFromBytesNumber s (length input) (length out) ≡ done
+    → (encodeFromBytesAnswer s input (length out) .session ≡ encoderAfter s (samples input))
+    × (encodeFromBytesOut s input out ≡ sets out 0 (encodedBytes s (samples input)))
+unfolding encodeFromBytesAnswer encodeFromBytesOut
+encoded-from-bytes s input out e = (rw e, rw e)
 
 -- the count alone is doubled
 abbrev pub inBytes : DecoderAnswer → DecoderAnswer

@@ -1,7 +1,7 @@
 -- When a call is done, and what it then answers and leaves; and what it does where it refuses.
 use Prim.Native.Nat.{ℕ, _+_, _*_, _/_, _%_, _≤_, _<_}
 use native.Mathlib.Omega.{arith}
-use mathlib.Core.Bool.{Bool, true, false, cond, not}
+use mathlib.Core.Bool.{Bool, true, false, cond, not, _&&_}
 use mathlib.Core.Path.{_≡_, refl, sym, ap, _∙_}
 use mathlib.Core.List.{List}
 use lib.IntN.{ℤ}
@@ -65,9 +65,9 @@ module _ (s : Encoder) (input out : List ℕ) where
       → (length input % 2 ≡ 0) × EncodeTaken s (length input / 2) (length out)
   unfolding encodeFromBytesNumber
   from-bytes-taken e =
-      let a = passed (not (encoderInBounds s)) 2 _ (lit< tt) e in
-      let b = passed (not (eqb (length input % 2) 0)) 3 _ (lit< tt) (a .1) in
-      (eqb-true _ _ (not-false _ (b .0)), encode-taken s (length input / 2) (length out) (b .1))
+      let a = passed (encoderInBounds s && not (eqb (length input % 2) 0)) 3 _ (lit< tt) e in
+      let t = encode-taken s (length input / 2) (length out) (a .1) in
+      (eqb-true _ _ (not-false _ (rw (t .inside) at (a .0))), t)
 
   pub from-bytes-refused : (k : ℕ) → k ≡ encodeFromBytesNumber s (length input) (length out) → (k ≡ done → ⊥)
       → (encoderReply k 0 s ≡ encodeFromBytesAnswer s input (length out)) × (out ≡ encodeFromBytesOut s input out)

@@ -1,6 +1,6 @@
 -- What an encoder's calls answer, and what encoding leaves in the output (docs/RULES.md, "Answers", "Samples as bytes").
 use Prim.Native.Nat.{ℕ, _+_, _/_, _%_}
-use mathlib.Core.Bool.{Bool, cond, not}
+use mathlib.Core.Bool.{Bool, cond, not, _&&_}
 use mathlib.Core.List.{List}
 use lib.IntN.{ℤ}
 use lib.ListN.{length}
@@ -57,11 +57,10 @@ encodeAnswer s xs room = encoderAnswered (encodeNumber s (length xs) room) (enco
 unfoldable pub encodeOut : Encoder → List ℤ → List ℕ → List ℕ
 encodeOut s xs out = leaves (encodeNumber s (length xs) (length out)) (encodedBytes s xs) out
 
--- ---- samples as bytes: half a sample is an odd count
+-- ---- samples as bytes: half a sample is an odd count too
 
 unfoldable pub encodeFromBytesNumber : Encoder → ℕ → ℕ → ℕ
-encodeFromBytesNumber s n room =
-    cond (not (encoderInBounds s)) outOfBounds (cond (not (eqb (n % 2) 0)) oddCount (encodeNumber s (n / 2) room))
+encodeFromBytesNumber s n room = cond (encoderInBounds s && not (eqb (n % 2) 0)) oddCount (encodeNumber s (n / 2) room)
 
 unfoldable pub encodeFromBytesAnswer : Encoder → List ℕ → ℕ → EncoderAnswer
 encodeFromBytesAnswer s input room =

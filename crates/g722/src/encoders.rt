@@ -69,10 +69,7 @@ impl Encoder {
     pub fn encode_from_bytes_number(self, n: usize, room: usize) -> u8
         ensures { λ r. ⌜ r ≡ encodeFromBytesNumber self n room ⌝ }
     {
-        if !self.in_bounds() {
-            return answers::OUT_OF_BOUNDS;
-        }
-        if n % 2 != 0 {
+        if self.in_bounds() & (n % 2 != 0) {
             return answers::ODD_COUNT;
         }
         self.encode_number(n / 2, room)

@@ -10,23 +10,15 @@ returns c = rw (ne-eqb _ _ (c .if1 .taken))
 
 returns-2 : tie.Need-returns-2
 unfolding callNumber
-returns-2 c = rw (eq-eqb _ _ (c .before .if1 .left), c .if2 .taken)
+returns-2 c = rw (eq-eqb _ _ (c .before .if1 .left), eq-eqb _ _ (c .if2 .taken))
 
 returns-3 : tie.Need-returns-3
 unfolding callNumber
-returns-3 c = rw (eq-eqb _ _ (c .before .before .if1 .left), c .before .if2 .left, eq-eqb _ _ (c .if3 .taken))
+returns-3 c = rw (eq-eqb _ _ (c .before .before .if1 .left), ne-eqb _ _ (c .before .if2 .left), lt-ltb _ _ (c .if3 .taken))
 
 returns-4 : tie.Need-returns-4
 unfolding callNumber
-returns-4 c =
-    let b = c .before .before in
-    rw (eq-eqb _ _ (b .before .if1 .left), b .if2 .left, ne-eqb _ _ (c .before .if3 .left), lt-ltb _ _ (c .if4 .taken))
-
-returns-5 : tie.Need-returns-5
-unfolding callNumber
-returns-5 c =
-    let b = c .before .before in
-    rw (eq-eqb _ _ (b .before .if1 .left), b .if2 .left, ne-eqb _ _ (c .before .if3 .left), le-ltb _ _ (c .if4 .left))
+returns-4 c = rw (eq-eqb _ _ (c .before .before .if1 .left), ne-eqb _ _ (c .before .if2 .left), le-ltb _ _ (c .if3 .left))
 
 pub call-number-spec : {M : Type 1} → statement M
-call-number-spec = tie.close (tie.spec returns returns-2 returns-3 returns-4 returns-5)
+call-number-spec = tie.close (tie.spec returns returns-2 returns-3 returns-4)

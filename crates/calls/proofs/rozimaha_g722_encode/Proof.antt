@@ -13,8 +13,8 @@ call : (c : tie.After-call-number) → let a = c .before .before .before .before
     (c .before .before .before .encoder-of .result) (c .call-number .result)
 call c = record {
   restored = c .before .before .before .encoder-of .ensures;
-  coded = c .before .encode-number .result;
-  coded-is = c .before .encode-number .ensures;
+  coded = c .before .encode-from-bytes-number .result;
+  coded-is = c .before .encode-from-bytes-number .ensures;
   number-is = c .call-number .ensures;
 }
 
