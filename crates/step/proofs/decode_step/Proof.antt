@@ -100,6 +100,7 @@ invq-requires-2 c κs = asks (two (c .before .before .before .before .before .be
 limited-requires-2 : tie.Need-limited-requires-2
 limited-requires-2 c κs = tt
 
+-- the range of q is that of either table
 low-update-requires : tie.Need-low-update-requires
 low-update-requires c κs =
     let s = start c in
