@@ -26,7 +26,7 @@ export RUSTC := /usr/bin/rustc
 export CARGO_TARGET_X86_64_UNKNOWN_LINUX_GNU_LINKER := x86_64-linux-gnu-gcc
 endif
 
-.PHONY: run test archive tools seek checked-host compare bench record clean
+.PHONY: run test archive tools seek checked-host empties compare bench record clean
 
 run: tools
 	rt check listing >&2
@@ -37,11 +37,10 @@ test:
 	mkdir -p build
 	rt ci 2>&1 | tee build/rt-ci.log | sed -u '$$d'
 	tail -n 1 build/rt-ci.log | grep -Eqx '[0-9]+ passed, 0 failed'
-	$(MAKE) --no-print-directory seek
+	$(MAKE) --no-print-directory seek empties
 	if $(RUST_IS_HERE); then
 	    $(MAKE) --no-print-directory compare
 	else
-	    $(MAKE) --no-print-directory checked-host
 	    echo 'NOT COMPARED: ROZIMAHA_SOURCE names no folder with the original Rust'
 	fi
 	tail -n 1 build/rt-ci.log
@@ -63,6 +62,10 @@ seek: archive tools
 # The original runs with overflow checks on, so that a sum that wraps there is seen.
 checked-host: archive tools
 	$(CARGO) --profile checked
+
+# Empty buffers, passed as null and as another address.
+empties: checked-host
+	$(EMULATOR) build/host/$(TARGET)/checked/rozimaha-host empties
 
 compare: checked-host
 	$(EMULATOR) build/host/$(TARGET)/checked/rozimaha-host compare

@@ -42,8 +42,7 @@ fn coder(name: &str, call: Coder, letter: u8) -> Result<u64, String> {
     Ok(calls + held(name, number, 0, written)?)
 }
 
-// How many calls were made.
-pub fn compare() -> Result<u64, String> {
+pub fn try_all() -> Result<(), String> {
     let mut calls = 0;
     for null in [false, true] {
         proved::pass_empty_as_null(null);
@@ -58,5 +57,5 @@ pub fn compare() -> Result<u64, String> {
         }
     }
     println!("empty buffers, null or not: {calls} calls");
-    Ok(calls)
+    Ok(())
 }

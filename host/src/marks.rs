@@ -1,4 +1,5 @@
 // Mark lines as docs/RULES.md has them, written and judged here by code of their own, so that the proved ones have a second opinion.
+#![cfg_attr(not(original), allow(dead_code))]
 
 pub const NUMBERS: usize = 70;
 pub const POSITION_MOST: u64 = 4294967295;

@@ -39,7 +39,7 @@ allBetween lo hi (z ∷ zs) = between lo hi z && allBetween lo hi zs
 abbrev pub allWords : List ℤ → Bool
 allWords = allBetween (minus 32768) (pos 32767)
 
--- all that a band has
+-- all that a band has; the order says nothing here
 abbrev pub numbers : Band → List ℤ
 numbers k =
     k .s ∷ k .sp ∷ k .sz ∷ k .r1 ∷ k .r2 ∷ k .a1 ∷ k .a2 ∷ k .p1 ∷ k .p2

@@ -32,7 +32,7 @@ fn uppol1(a1: i16, ap2: i16, p0: i16, p1: i16) -> i16
 }
 
 // UPZERO's gain under the sign of d: taken once, for all six zeros.
-fn gain_of(d: i16) -> i32
+fn signed_gain(d: i16) -> i32
     ensures { λ r. ⌜ Is (minus 128) (pos 128) (signedBy d (gain d)) r ⌝ }
 {
     if d < 0 {
@@ -102,7 +102,7 @@ pub(crate) fn block4(d: i16, nb: i16, det: i16, band: Band) -> Band
     // UPPOL1
     let a1 = uppol1(band.a1, a2, p0, band.p1);
     // UPZERO
-    let gain = gain_of(d);
+    let gain = signed_gain(d);
     let b1 = upzero(gain, d1, band.b1);
     let b2 = upzero(gain, d2, band.b2);
     let b3 = upzero(gain, d3, band.b3);

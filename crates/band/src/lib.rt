@@ -91,9 +91,9 @@ impl Band {
         }
     }
 
-    // Every number is one of 16 bits by its type.
-    pub fn in_bounds(self, top: i32) -> bool
-        ensures { λ r. ⌜ r ≡ bandInBounds self top ⌝ }
+    // Every number is one of 16 bits by its type; `most` is the greatest nb.
+    pub fn in_bounds(self, most: i32) -> bool
+        ensures { λ r. ⌜ r ≡ bandInBounds self most ⌝ }
     {
         let a1 = self.a1 as i32;
         let a2 = self.a2 as i32;
@@ -102,7 +102,7 @@ impl Band {
         let rest = Band::A1_AND_A2_MOST - a2;
         within(a2, -Band::A2_MOST, Band::A2_MOST)
             & within(a1, -rest, rest)
-            & within(nb, 0, top)
+            & within(nb, 0, most)
             & within(det, 0, Band::DET_MOST)
     }
 }

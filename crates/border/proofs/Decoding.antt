@@ -10,8 +10,7 @@ use Rattle.answers.specs.Numbers.{done, noRoom, positionPastEnd}
 use Rattle.samples.specs.Bytes.{bytes}
 use Rattle.g722.specs.declared.Decoder.{Decoder}
 use Rattle.runs.specs.Rates.{decodeRoom}
-use Rattle.g722.specs.Session.{decoderMoves}
-use Rattle.g722.specs.Session.{positionMost}
+use Rattle.g722.specs.Session.{decoderMoves, positionMost}
 use Rattle.g722.specs.Decoding.{decoderBegun, decoderInBounds, decoderAfter, decodedSamples}
 use Rattle.g722.proofs.MovedOn.{decoder-moves-cut}
 use Rattle.g722.proofs.Cut.{decoded-length}

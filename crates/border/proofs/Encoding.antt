@@ -11,8 +11,7 @@ use Rattle.samples.specs.Bytes.{samples}
 use Rattle.samples.proofs.Bytes.{length-samples}
 use Rattle.g722.specs.declared.Encoder.{Encoder}
 use Rattle.runs.specs.Rates.{encodeRoom, oddAt}
-use Rattle.g722.specs.Session.{encoderMoves}
-use Rattle.g722.specs.Session.{positionMost}
+use Rattle.g722.specs.Session.{encoderMoves, positionMost}
 use Rattle.g722.specs.Encoding.{encoderBegun, encoderInBounds, encoderAfter, encodedBytes, encodeFromBytesNumber}
 use Rattle.g722.proofs.Cut.{encoded-length}
 use Rattle.text.proofs.Tests.{either}

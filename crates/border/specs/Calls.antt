@@ -8,7 +8,7 @@ pub record CCalls (k : Kind) : Type 0 where
   -- what input bytes stand for, and what is given out, as bytes
   pub input : List ℕ → k .Input
   pub asBytes : List (k .Out) → List ℕ
-  -- by the rate and the count of input bytes: whether that is odd, and how many bytes a done call gives out
+  -- by the rate and the count of input bytes: whether it is refused as odd, and how many bytes a done call gives out
   pub odd : ℕ → ℕ → Bool
   pub count : ℕ → ℕ → ℕ
   -- by the rate and the count of a history's items: the position at its end

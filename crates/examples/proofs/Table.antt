@@ -18,9 +18,8 @@ use Rattle.step.specs.Step.{decodeStep, encodeStep}
 use Rattle.pcmu.specs.Mulaw.{muByte}
 use Rattle.pcma.specs.Alaw.{aByte, aCode, aSize, aValue, ends, masked, signed}
 use Rattle.runs.specs.Rates.{decodeRoom, encodeRoom, oddAt}
-use Rattle.g722.specs.Session.{decoderMoves, encoderMoves}
+use Rattle.g722.specs.Session.{decoderMoves, encoderMoves, beginNumber, freshAt, sessionInBounds, startBegun}
 use Rattle.runs.specs.Runs.{bytesOfPairs, doubled, filtersAfterBytes, filtersAfterPairs, keptAt, keptOf, paired, pairsAt, pairsOfBytes}
-use Rattle.g722.specs.Session.{beginNumber, freshAt, sessionInBounds, startBegun}
 use Rattle.g722.specs.Encoding.{encodeAnswer, encodeNumber, encodeOut, encodedBytes, encoderAfter, encoderBegun}
 use Rattle.g722.specs.Decoding.{decodeAnswer, decodeNumber, decodeOut, decodedSamples, decoderAfter, decoderBegun}
 

@@ -43,6 +43,6 @@ signedBy x w = cond (ltZ x (pos 0)) (negℤ w) w
 abbrev pub scaledBy : ℤ → ℤ → ℤ
 scaledBy a q = shrZ (a *ℤ q) 32768
 
--- one product of a filter: the coefficient c times twice x, over 2^15
+-- one product of a filter: c·sat(2·x) / 2^15 down
 abbrev pub tapped : ℤ → ℤ → ℤ
 tapped c x = scaledBy c (sat (x +ℤ x))

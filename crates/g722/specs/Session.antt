@@ -12,7 +12,7 @@ use Rattle.runs.specs.Rates.{decodeRoom}
 abbrev pub positionMost : ℕ
 positionMost = 4294967295
 
--- position counts samples at the session's rate: those that an encoder takes, and those that a decoder gives out
+-- position counts samples at the session's rate: those that an encoder takes, one each at any rate, and those that a decoder gives out
 unfoldable pub encoderMoves : ℕ → ℕ → ℕ
 encoderMoves rate n = n
 

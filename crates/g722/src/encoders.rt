@@ -86,7 +86,7 @@ impl Encoder {
     }
 
     // The answer once n samples are taken and the filters are these.
-    fn taken(self, n: usize, filters: Filters) -> EncoderAnswer
+    fn answered(self, n: usize, filters: Filters) -> EncoderAnswer
         requires { ⌜ self .position + encoderMoves (self .rate) n ≤ positionMost ⌝ }
         ensures { λ r. ⌜ r ≡ encoderReply done (encodeRoom (self .rate) n) (encoderOn self n filters) ⌝ }
     {
@@ -113,7 +113,7 @@ impl Encoder {
         }
         let filters = self.filters;
         let coded = runs::encode_run(self.rate, input, out, filters);
-        self.taken(input.len(), coded)
+        self.answered(input.len(), coded)
     }
 
     // `encode` where the samples come as bytes.
@@ -127,6 +127,6 @@ impl Encoder {
         }
         let filters = self.filters;
         let coded = pieces::encode(self.rate, input, out, filters);
-        self.taken(input.len() / 2, coded)
+        self.answered(input.len() / 2, coded)
     }
 }

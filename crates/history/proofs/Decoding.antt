@@ -8,8 +8,7 @@ use lib.ListN.{length}
 use lib.Dec.{ltb}
 use Rattle.g722.specs.declared.Decoder.{Decoder}
 use Rattle.runs.specs.Rates.{decodeRoom}
-use Rattle.g722.specs.Session.{decoderMoves}
-use Rattle.g722.specs.Session.{positionMost, freshAt}
+use Rattle.g722.specs.Session.{decoderMoves, positionMost, freshAt}
 use Rattle.runs.specs.Runs.{keptAt, filtersAfterBytes, pairsOfBytes}
 use Rattle.g722.specs.Decoding.{decoderAt, decoderReply, decoderBegun, decoderInBounds, decodeNumber, decodeAnswer}
 use Rattle.g722.specs.Decoding.{decoderAfter, decodedSamples}

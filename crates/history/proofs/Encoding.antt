@@ -10,8 +10,7 @@ use lib.Dec.{eqb, ltb}
 use borrow.Author.Tests.{eq-eqb, eqb-true, not-false}
 use Rattle.g722.specs.declared.Encoder.{Encoder}
 use Rattle.runs.specs.Rates.{resamples, encodeRoom, oddAt}
-use Rattle.g722.specs.Session.{encoderMoves}
-use Rattle.g722.specs.Session.{positionMost, freshAt}
+use Rattle.g722.specs.Session.{encoderMoves, positionMost, freshAt}
 use Rattle.runs.specs.Runs.{doubled, paired, pairsAt, filtersAfterPairs, bytesOfPairs}
 use Rattle.g722.specs.Encoding.{encoderAt, encoderReply, encoderBegun, encoderInBounds, encodeNumber, encodeAnswer}
 use Rattle.g722.specs.Encoding.{encoderAfter, encodedBytes}

@@ -7,8 +7,7 @@ use lib.IntN.{ℤ, pos}
 use lib.ListN.{length, replicate, length-replicate}
 use Rattle.g722.specs.declared.Decoder.{Decoder}
 use Rattle.runs.specs.Rates.{decodeRoom}
-use Rattle.g722.specs.Session.{decoderMoves}
-use Rattle.g722.specs.Session.{positionMost}
+use Rattle.g722.specs.Session.{decoderMoves, positionMost}
 use Rattle.g722.specs.Decoding.{decoderBegun, decodedSamples}
 use Rattle.g722.proofs.Cut.{decode-moves-cut}
 use Rattle.life.specs.Life.{fresh, givenBy, markBy, coded, still, further, Life, begun, called, StandsFor}

@@ -11,8 +11,7 @@ use Rattle.answers.specs.Numbers.{done}
 use Rattle.g722.specs.declared.Encoder.{Encoder}
 use Rattle.g722.specs.declared.Decoder.{Decoder}
 use Rattle.runs.specs.Rates.{encodeRoom, decodeRoom, oddAt}
-use Rattle.g722.specs.Session.{encoderMoves, decoderMoves}
-use Rattle.g722.specs.Session.{positionMost, beginNumber, startBegun}
+use Rattle.g722.specs.Session.{encoderMoves, decoderMoves, positionMost, beginNumber, startBegun}
 use Rattle.g722.specs.Encoding.{encoderBegun, encoderAfter, encodeAnswer}
 use Rattle.g722.specs.Decoding.{decoderBegun, decoderAfter, decodeAnswer}
 use Rattle.life.specs.Life.{Life}

@@ -8,8 +8,7 @@ use lib.ListN.{length, take, getD, replicate}
 use Rattle.g722.specs.declared.Encoder.{Encoder}
 use Rattle.g722.specs.declared.Decoder.{Decoder}
 use Rattle.runs.specs.Rates.{decodeRoom}
-use Rattle.g722.specs.Session.{decoderMoves}
-use Rattle.g722.specs.Session.{beginNumber, startBegun}
+use Rattle.g722.specs.Session.{decoderMoves, beginNumber, startBegun}
 use Rattle.g722.specs.Encoding.{encoderBegun}
 use Rattle.g722.specs.Decoding.{decoderBegun, decodedSamples}
 use Rattle.life.specs.Kind.{Kind, Reply}

@@ -7,8 +7,7 @@ use lib.IntN.{ℤ, pos, negsuc}
 use lib.ListN.{drop, replicate}
 use Rattle.g722.specs.declared.Decoder.{Decoder}
 use Rattle.runs.specs.Rates.{decodeRoom}
-use Rattle.g722.specs.Session.{decoderMoves}
-use Rattle.g722.specs.Session.{beginNumber}
+use Rattle.g722.specs.Session.{decoderMoves, beginNumber}
 use Rattle.g722.specs.Decoding.{decoderBegun}
 use Rattle.life.specs.Life.{fresh, givenBy, markBy, coded, code-refused, wrote, Life, begun, begin-refused, called, restored}
 use Rattle.history.specs.Decoding.{decoding}

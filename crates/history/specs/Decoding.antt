@@ -10,8 +10,7 @@ use Rattle.answers.specs.Numbers.{done, noRoom, positionPastEnd}
 use Rattle.g722.specs.declared.Decoder.{Decoder}
 use Rattle.g722.specs.declared.DecoderAnswer.{DecoderAnswer}
 use Rattle.runs.specs.Rates.{decodeRoom}
-use Rattle.g722.specs.Session.{decoderMoves}
-use Rattle.g722.specs.Session.{positionMost}
+use Rattle.g722.specs.Session.{decoderMoves, positionMost}
 use Rattle.g722.specs.Decoding.{decoderBegun, decoderInBounds, decodeAnswer, decodeOut, decoderAfter, decodedSamples}
 use Rattle.mark.specs.Answer.{rateMost}
 use Rattle.mark.specs.Marks.{decoderWriteAnswer, decoderWriteOut, decoderRestoreAnswer}

@@ -11,8 +11,7 @@ use Rattle.band.specs.Bounds.{allWords}
 use Rattle.g722.specs.declared.Encoder.{Encoder}
 use Rattle.g722.specs.declared.EncoderAnswer.{EncoderAnswer}
 use Rattle.runs.specs.Rates.{encodeRoom, oddAt}
-use Rattle.g722.specs.Session.{encoderMoves}
-use Rattle.g722.specs.Session.{positionMost}
+use Rattle.g722.specs.Session.{encoderMoves, positionMost}
 use Rattle.g722.specs.Encoding.{encoderBegun, encoderInBounds, encodeAnswer, encodeOut, encoderAfter, encodedBytes}
 use Rattle.mark.specs.Answer.{rateMost}
 use Rattle.mark.specs.Marks.{encoderWriteAnswer, encoderWriteOut, encoderRestoreAnswer}

@@ -15,7 +15,7 @@ const RATE: u32 = 16000;
 
 const ZERO_START: u8 = 0;
 
-// So many bytes are decoded at a time, and their rows written at once.
+// So many bytes are decoded at a time, and their 2048 rows of at most 18 bytes written at once: 36864 bytes.
 const PIECE: usize = 1024;
 
 // The session so far, and whether there may be more to list.

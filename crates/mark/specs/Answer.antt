@@ -62,9 +62,12 @@ textNumber kind n vs (Sound k letter count) =
     cond (not (eqb count n)) malformed (cond (not (eqb k kind)) otherKind (cond (not (numbersInBounds vs)) numberOutOfBounds done))
 textNumber kind n vs Malformed = malformed
 
+-- the session of a start letter and numbers
+abbrev pub sessionOf : {S : Type 0} → (ℕ → ℕ → ℕ → Filters → S) → ℕ → List ℤ → S
+sessionOf make letter vs = make (natAbs (getD vs 0 (pos 0))) (startOf letter) (natAbs (getD vs 1 (pos 0))) (filtersOf (drop 2 vs))
+
 abbrev pub textSession : {S : Type 0} → (ℕ → ℕ → ℕ → Filters → S) → S → List ℤ → Line → S
-textSession make s vs (Sound k letter count) =
-    make (natAbs (getD vs 0 (pos 0))) (startOf letter) (natAbs (getD vs 1 (pos 0))) (filtersOf (drop 2 vs))
+textSession make s vs (Sound k letter count) = sessionOf make letter vs
 textSession make s vs Malformed = s
 
 unfoldable pub restoreNumber : Bool → ℕ → List ℕ → ℕ

@@ -2,8 +2,8 @@
 use Prim.Native.Nat.{ℕ}
 use mathlib.Core.Bool.{Bool, cond}
 use mathlib.Core.List.{List}
-use lib.IntN.{ℤ, pos, natAbs}
-use lib.ListN.{length, getD, drop}
+use lib.IntN.{ℤ, pos}
+use lib.ListN.{length}
 use lib.Dec.{eqb}
 use Rattle.answers.specs.declared.Answer.{Answer}
 use Rattle.answers.specs.Numbers.{done, numberOutOfBounds}
@@ -11,8 +11,7 @@ use Rattle.answers.specs.Lent.{answer}
 use Rattle.band.specs.declared.Filters.{Filters}
 use Rattle.band.specs.Fresh.{freshFilters}
 use Rattle.mark.specs.declared.both.Restored.{Restored}
-use Rattle.mark.specs.Numbers.{filtersOf}
-use Rattle.mark.specs.Answer.{startOf, writeNumber, numbersInBounds, restoreNumber, restoredSession}
+use Rattle.mark.specs.Answer.{writeNumber, numbersInBounds, sessionOf, restoreNumber, restoredSession}
 
 abbrev pub lineAnswer : Bool → List ℕ → ℕ → Answer
 lineAnswer inside line room = answer (writeNumber inside line room) (length line)
@@ -26,10 +25,7 @@ refusedWith number = record { number = number; rate = 0; start = 0; position = 0
 
 -- what a start letter and the numbers of a line say
 unfoldable pub saidBy : ℕ → List ℤ → Restored
-saidBy letter vs =
-    cond (numbersInBounds vs)
-    (restoredWith (natAbs (getD vs 0 (pos 0))) (startOf letter) (natAbs (getD vs 1 (pos 0))) (filtersOf (drop 2 vs)))
-    (refusedWith numberOutOfBounds)
+saidBy letter vs = cond (numbersInBounds vs) (sessionOf restoredWith letter vs) (refusedWith numberOutOfBounds)
 
 -- what a text says
 unfoldable pub readMark : Bool → ℕ → List ℕ → Restored

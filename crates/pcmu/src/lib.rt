@@ -32,8 +32,8 @@ fn sign_bit(s: i16) -> u32
 fn bias(s: i16) -> u32
     ensures { λ r. ⌜ r ≡ biased s ⌝ }
 {
-    let size = magnitude(s);
-    if size > 32635 { 32767 } else { size + 132 }
+    let whole = magnitude(s);
+    if whole > 32635 { 32767 } else { whole + 132 }
 }
 
 fn byte_of(table: &[u8; 256], s: i16) -> u8

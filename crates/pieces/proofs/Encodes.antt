@@ -1,7 +1,7 @@
 -- The encoder's loop over pieces of the input. Its invariant speaks of what is still to do.
 use mathlib.Core.Bool.{Bool, true, false, not, and-false}
-use mathlib.Core.List.{List, [], _++_}
-use mathlib.Core.Path.{_≡_, refl, sym, ap, _∙_}
+use mathlib.Core.List.{List, _++_}
+use mathlib.Core.Path.{_≡_, refl, ap, _∙_}
 use Prim.Native.Nat.{ℕ, _+_, _*_, _-_, _/_, _%_, _≤_, min}
 use native.Mathlib.Omega.{arith}
 use lib.Dec.{ltb}

@@ -12,7 +12,7 @@ use Rattle.samples.specs.Bytes.{sampleOf, samples, bytes}
 use Rattle.samples.proofs.Words.{sample-fits}
 use Rattle.fixed.proofs.Wide.{in16-of}
 use Rattle.band.specs.Bounds.{allWords}
-use Rattle.band.proofs.Boxes.{no-words, more-words, head-word, tail-words}
+use Rattle.band.proofs.Boxes.{no-words, more-words}
 
 -- ---- stores
 

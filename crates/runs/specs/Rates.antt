@@ -3,7 +3,7 @@ use Prim.Native.Nat.{ℕ, _*_, _/_, _%_}
 use mathlib.Core.Bool.{Bool, cond, not, _&&_}
 use lib.Dec.{eqb}
 
--- one sample goes with a byte; at every other rate two
+-- at rate 8000 one sample goes with a byte, at every other rate two
 abbrev pub resamples : ℕ → Bool
 resamples rate = eqb rate 8000
 

@@ -1,5 +1,5 @@
 // Runs of G.722 over the filters alone: samples to bytes, and bytes to samples. One loop each for all rates, so that the step of a
-// byte is called in one place. They ask for room, and no user calls them: sessions do, which refuse.
+// byte is called in one place. They ask for room, and no user calls them: sessions and pieces do.
 pub mod rates;
 
 use band::Filters;

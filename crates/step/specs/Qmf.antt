@@ -28,7 +28,7 @@ oddSum x = dot (everyOther x) QMF-COEFFS
 abbrev pub evenSum : List ℤ → ℤ
 evenSum x = dot (everyOther (drop 1 x)) (reverse QMF-COEFFS)
 
--- what is handed back as a sum v: no sum over numbers of 16 bits is greater
+-- what is handed back as a sum v: no sum over numbers of 16 bits is greater than 32768 times 6482, the coefficients' sizes added up
 abbrev pub IsSum : ℤ → ℤ → Type 0
 IsSum v r = Is (minus 212402176) (pos 212402176) v r
 

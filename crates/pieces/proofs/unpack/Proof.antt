@@ -1,6 +1,6 @@
 -- `pieces::unpack` meets its contract: a sample a turn.
 use mathlib.Core.List.{map-id}
-use mathlib.Core.Path.{_≡_, sym, _∙_}
+use mathlib.Core.Path.{sym, _∙_}
 use Prim.Native.Nat.{_-_, _<_}
 use native.Mathlib.Omega.{arith}
 use lib.IntN.{ℤ, pos}

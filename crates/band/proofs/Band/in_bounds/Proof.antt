@@ -64,7 +64,7 @@ returns c =
     let rest = sub (lit (pos a1AndA2Most) tt) (from16 (field s 6)) tt in
     let a2 = c .before .before .before .within .ensures ∙ at1 (from16 (field s 6)) (between (minus a2Most) (pos a2Most)) in
     let a1 = c .before .before .within2 .ensures ∙ at3 (neg rest tt) rest (from16 (field s 5)) between in
-    let nb = c .before .within3 .ensures ∙ at2 (any (s .fits .top)) (from16 (field s 21)) (between (pos 0)) in
+    let nb = c .before .within3 .ensures ∙ at2 (any (s .fits .most)) (from16 (field s 21)) (between (pos 0)) in
     let det = c .within4 .ensures ∙ at1 (from16 (field s 22)) (between (pos 0) (pos detMost)) in
     λ i. sym (words s) i && (((a2 i && a1 i) && nb i) && det i)
 

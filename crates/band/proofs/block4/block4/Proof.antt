@@ -23,8 +23,8 @@ words c = search (needs, band-in, word-told)
 field : (c : tie.Start) (i : ℕ) → H (getD (numbers (c .args .band)) i (pos 0)) (getD (numbers (c .args .band)) i (pos 0))
 field c i = half (fits16-of (word-at (numbers (c .args .band)) (words c) i))
 
-gained : (c : tie.After-gain-of) → In (minus 128) (pos 128) (rd (c .gain-of .result))
-gained c = asks (call (c .gain-of .ensures) refl tt) _ _ tt tt
+gained : (c : tie.After-signed-gain) → In (minus 128) (pos 128) (rd (c .signed-gain .result))
+gained c = asks (call (c .signed-gain .ensures) refl tt) _ _ tt tt
 
 -- a zero that a gain under both signs moves
 zero : (d : ℤ) {g m di n bi r : ℤ} → E (minus 128) (pos 128) g (signedBy d (gain d)) → H m di → H n bi
@@ -45,8 +45,8 @@ uppol2-requires c κs = tt
 uppol1-requires : tie.Need-uppol1-requires
 uppol1-requires c κs = search needs
 
-gain-of-requires : tie.Need-gain-of-requires
-gain-of-requires c κs = tt
+signed-gain-requires : tie.Need-signed-gain-requires
+signed-gain-requires c κs = tt
 
 upzero-requires : tie.Need-upzero-requires
 upzero-requires c κs = gained (c .before)
@@ -99,7 +99,7 @@ returns c =
     let p0 = ans (at-p0 .plus2 .ensures) (h2 (k 2) d (λ (a b : ℤ). sat (a +ℤ b))) (at-p0 .plus2 .ok) in
     let a2 = ans (at-a2 .uppol2 .ensures .is) (h5 (k 5) (k 6) p0 (k 7) (k 8) UPPOL2) (at-a2 .uppol2 .ok) in
     let a1 = ans (at-a1 .uppol1 .ensures) (h4 (k 5) a2 p0 (k 7) UPPOL1) (at-a1 .uppol1 .ok) in
-    let g = call (at-gain .gain-of .ensures) (h1 d (λ (v : ℤ). signedBy v (gain v))) tt in
+    let g = call (at-gain .signed-gain .ensures) (h1 d (λ (v : ℤ). signedBy v (gain v))) tt in
     let b1 = zero (q .args .d) g (k 9) (k 15) (at1 .upzero .ensures) (at1 .upzero .ok) in
     let b2 = zero (q .args .d) g (k 10) (k 16) (at2 .upzero2 .ensures) (at2 .upzero2 .ok) in
     let b3 = zero (q .args .d) g (k 11) (k 17) (at3 .upzero3 .ensures) (at3 .upzero3 .ok) in
@@ -145,7 +145,7 @@ block4-spec =
     plus-requires-2
     uppol2-requires
     uppol1-requires
-    gain-of-requires
+    signed-gain-requires
     upzero-requires
     upzero-requires-2
     upzero-requires-3

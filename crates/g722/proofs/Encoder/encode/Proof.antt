@@ -31,7 +31,7 @@ returns-2 c =
     let n = length (a .input .now) in
     let e = encode-done s (a .input .now) (a .out .now) (is-done t) in
     let after = ap (λ (f : Filters). encoderReply done (encodeRoom (s .rate) n) (encoderOn s n f)) (run .encode-run .ensures .0) in
-    (c .taken .ensures ∙ after ∙ e .0, run .encode-run .ensures .1 ∙ e .1)
+    (c .answered .ensures ∙ after ∙ e .0, run .encode-run .ensures .1 ∙ e .1)
 
 pub encode-spec : {M : Type 1} → statement M
 encode-spec =

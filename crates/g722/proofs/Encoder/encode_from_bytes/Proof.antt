@@ -39,7 +39,7 @@ returns-2 c =
     let n = length (a .input .now) / 2 in
     let e = from-bytes-done s (a .input .now) (a .out .now) (sym (t .before .encode-from-bytes-number .ensures) ∙ t .if1 .left) in
     let after = ap (λ (f : Filters). encoderReply done (encodeRoom (s .rate) n) (encoderOn s n f)) (run .encode .ensures .0) in
-    (c .taken .ensures ∙ after ∙ e .0, run .encode .ensures .1 ∙ e .1)
+    (c .answered .ensures ∙ after ∙ e .0, run .encode .ensures .1 ∙ e .1)
 
 pub encode-from-bytes-spec : {M : Type 1} → statement M
 encode-from-bytes-spec =

@@ -11,8 +11,8 @@ use Rattle.fixed.proofs.Signs.{kept, not-negative}
 use Rattle.fixed.proofs.Wide.{gives-lit}
 use Rattle.fixed.proofs.Half.{negative, positive}
 use Rattle.band.specs.Block4.{gain}
-use Rattle.band.proofs.block4.gain_of.Statement.{statement}
-use Rattle.band.proofs.block4.gain_of.Tie as tie
+use Rattle.band.proofs.block4.signed_gain.Statement.{statement}
+use Rattle.band.proofs.block4.signed_gain.Tie as tie
 
 gain-below : (d : ℤ) → ltZ d (pos 0) ≡ true → minus 128 ≡ signedBy d (gain d)
 unfolding signedBy
@@ -42,5 +42,5 @@ returns-3 c =
     let s = c .before .before in
     gives-lit (pos 0) (gain-zero (s .args .d) (negative (s .fits .d) (c .before .if1 .left)) (positive (s .fits .d) (c .if2 .left))) tt tt
 
-pub gain-of-spec : {M : Type 1} → statement M
-gain-of-spec = tie.close (tie.spec returns returns-2 returns-3)
+pub signed-gain-spec : {M : Type 1} → statement M
+signed-gain-spec = tie.close (tie.spec returns returns-2 returns-3)
