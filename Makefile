@@ -1,6 +1,7 @@
 # make run      lists a small recording          RECORDING=file lists another
 # make test     everything: proofs, must-fail edits, programs, the comparison with the Rust
 # make compare  the comparison alone             make bench   both sides timed
+# make empties  empty buffers, null or not
 # make archive  the library for C                make record  the original's answers, written down again for `replay`
 SHELL := bash
 .SHELLFLAGS := -eu -o pipefail -c
