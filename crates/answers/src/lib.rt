@@ -1,4 +1,6 @@
 // What a call answers: a number, and how many items it wrote. docs/RULES.md, "Answers".
+#![tactic(auto)]
+
 ghost use Rattle.std.specs.Prelude.{◌≡◌};
 ghost use Rattle.answers.specs.Numbers.{done};
 ghost use Rattle.answers.specs.Lent.{reply};
@@ -30,7 +32,7 @@ pub const OTHER_KIND: u8 = 7;
 pub const NUMBER_OUT_OF_BOUNDS: u8 = 8;
 
 // The answer of a call that has no session.
-#[derive(Drop)]
+#[derive(Clone, Copy)]
 pub struct Answer {
     pub number: u8,
     pub count: usize,

@@ -1,4 +1,6 @@
 // A band's record, and what both ends of G.722 do with it: quantisers, scale factors, and the predictor of block 4.
+#![tactic(auto)]
+
 pub mod adapt;
 mod block4;
 pub mod quantise;
@@ -10,7 +12,7 @@ ghost use Rattle.band.specs.Fresh.{fresh_band, fresh_filters};
 ghost use Rattle.band.specs.Bounds.{between, band_in_bounds, filters_in_bounds};
 
 // One band's predictor: the numbers of the standard's block 4, and of 3L or 3H.
-#[derive(Drop)]
+#[derive(Clone, Copy)]
 pub struct Band {
     pub s: i16,
     pub sp: i16,
@@ -38,7 +40,7 @@ pub struct Band {
 }
 
 // What both ends keep from one byte to the next.
-#[derive(Drop)]
+#[derive(Clone, Copy)]
 pub struct Filters {
     pub x: [i16; 24],
     pub low: Band,

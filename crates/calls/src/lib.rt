@@ -1,5 +1,7 @@
 // The laws and G.722 for C and Rust callers: samples are a low byte, then a high byte. docs/RULES.md, "C calls".
 // Each call answers the number alone. The laws' are 0 done, 3 an odd count of sample bytes, 4 too little room.
+#![tactic(auto)]
+
 ghost use Rattle.std.specs.Prelude.{◌≡◌};
 ghost use Rattle.samples.specs.Lent.{from_bytes_number, from_bytes_output, to_bytes_number, to_bytes_output};
 ghost use Rattle.pcmu.specs.Mulaw.{mu_byte, mu_value};

@@ -1,4 +1,6 @@
 // Signed fixed-point numbers: what the blocks of G.722 do with samples and coefficients of 16 bits, each operation once.
+#![tactic(auto)]
+
 ghost use Rattle.std.specs.Prelude.{◌≡◌, cond, pos, neg_ℤ, ◌+ℤ◌, ◌*ℤ◌, ◌≤ℤ◌};
 ghost use Rattle.std.specs.Int.Signed.{shr_z};
 ghost use Rattle.fixed.specs.Number.{minus, In, In16, Is, clamp_z, sat, same_sign, signed_by, scaled_by, tapped};

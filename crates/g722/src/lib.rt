@@ -1,4 +1,6 @@
 // G.722 sessions. An encoder or a decoder is begun from a rate and a start; each call takes it by value and hands it back.
+#![tactic(auto)]
+
 mod decoders;
 mod encoders;
 mod moves;
@@ -13,7 +15,7 @@ pub const CLOCK_RATE: u32 = 8000;
 pub const SAMPLES_PER_FRAME: u32 = 160;
 
 // Position is the count of samples taken, at the session's rate.
-#[derive(Drop)]
+#[derive(Clone, Copy)]
 pub struct Encoder {
     pub rate: u32,
     pub start: u8,
@@ -22,7 +24,7 @@ pub struct Encoder {
 }
 
 // Position is the count of samples given out, at the session's rate.
-#[derive(Drop)]
+#[derive(Clone, Copy)]
 pub struct Decoder {
     pub rate: u32,
     pub start: u8,
@@ -31,14 +33,14 @@ pub struct Decoder {
 }
 
 // The number of the answer, the count of items written, and the session.
-#[derive(Drop)]
+#[derive(Clone, Copy)]
 pub struct EncoderAnswer {
     pub number: u8,
     pub count: usize,
     pub session: Encoder,
 }
 
-#[derive(Drop)]
+#[derive(Clone, Copy)]
 pub struct DecoderAnswer {
     pub number: u8,
     pub count: usize,

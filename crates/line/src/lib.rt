@@ -1,4 +1,6 @@
 // The grammar of a mark line: a kind letter, a start letter and numbers, of which rate and position come first.
+#![tactic(auto)]
+
 ghost use Rattle.std.specs.Prelude.{◌≡◌, ◌++◌, ℕ, ◌≤◌, ◌^◌, pos, length, drop, get_or};
 ghost use Rattle.std.proofs.lemmas.List.Edits.{sets};
 ghost use Rattle.std.specs.Int.Signed.{non_neg};
@@ -18,7 +20,7 @@ pub const LETTER_Z: u8 = 90;
 pub const LETTER_S: u8 = 83;
 
 // A line's letters and how many bytes it takes.
-#[derive(Drop)]
+#[derive(Clone, Copy)]
 pub enum Line {
     Sound { kind: u8, start: u8, count: usize },
     Malformed,

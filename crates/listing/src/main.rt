@@ -1,5 +1,7 @@
 // Lists the samples of the G.722 bytes on standard input, decoded from the zero start at 16000: a header, a row with the index and
 // the value of each sample, and the total.
+#![tactic(auto)]
+
 ghost use Rattle.std.specs.Prelude.{◌≡◌, false, ◌+◌, ◌≤◌, ◌<◌, length};
 ghost use Rattle.g722.specs.Decoding.{decoder_after};
 ghost use Rattle.rows.specs.Listing.{Ready};
@@ -15,7 +17,7 @@ const ZERO_START: u8 = 0;
 const PIECE: usize = 1024;
 
 // The session so far, and whether there may be more to list.
-#[derive(Drop)]
+#[derive(Clone, Copy)]
 struct Listed {
     session: Decoder,
     more: bool,

@@ -1,4 +1,6 @@
 // What both laws' decoders do: the value of each byte, looked up in a lent table of 256 values.
+#![tactic(auto)]
+
 ghost use Rattle.std.specs.Prelude.{◌≡◌};
 ghost use Rattle.answers.specs.Lent.{map_answer, map_output};
 ghost use Rattle.samples.specs.Lent.{to_bytes_answer, to_bytes_output};

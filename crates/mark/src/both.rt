@@ -58,7 +58,7 @@ pub(crate) fn write(
 }
 
 // The number that a line is answered with and, where that is 0, the parts of the session that it says.
-#[derive(Drop)]
+#[derive(Clone, Copy)]
 pub(crate) struct Restored {
     pub number: u8,
     pub rate: u32,

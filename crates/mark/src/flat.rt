@@ -104,7 +104,7 @@ pub(crate) fn put_numbers(out: &mut [i64], rate: u32, position: u32, f: Filters)
 }
 
 // The filters that numbers say, if they are within their bounds; if not, the filters are of no use.
-#[derive(Drop)]
+#[derive(Clone, Copy)]
 pub(crate) struct Said {
     pub inside: bool,
     pub filters: Filters,

@@ -1,4 +1,6 @@
 // A session's mark: one line of text that says it whole, written into a lent buffer, and restored.
+#![tactic(auto)]
+
 mod both;
 mod flat;
 

@@ -1,4 +1,6 @@
 // G.711 mu-law: 16-bit samples to bytes and back. docs/RULES.md, "Mu-law".
+#![tactic(auto)]
+
 ghost use Rattle.std.specs.Prelude.{◌≡◌};
 ghost use Rattle.answers.specs.Lent.{map_answer, map_output};
 ghost use Rattle.samples.specs.Lent.{from_bytes_answer, from_bytes_output, to_bytes_answer, to_bytes_output};

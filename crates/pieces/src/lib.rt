@@ -1,4 +1,6 @@
 // Runs of G.722 over samples as bytes. The runs take and give samples, so these go through a local array, a piece at a time.
+#![tactic(auto)]
+
 ghost use Rattle.std.specs.Prelude.{false, ◌≡◌, ◌*◌, ◌/◌, ◌%◌, ◌<◌, ◌≤◌, min, length};
 ghost use Rattle.std.proofs.lemmas.List.Edits.{sets};
 ghost use Rattle.samples.specs.Bytes.{samples, bytes};

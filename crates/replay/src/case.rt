@@ -7,7 +7,7 @@ use crate::words;
 const BEFORE: u8 = 0xA5;
 
 // `held` is the length of the mark line that the last G.722 case left.
-#[derive(Drop)]
+#[derive(Clone, Copy)]
 pub struct Tally {
     pub cases: u64,
     pub wrong: u64,

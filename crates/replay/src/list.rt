@@ -5,7 +5,7 @@ use crate::case::Tally;
 use crate::{case, words};
 
 // How far a piece was run.
-#[derive(Drop)]
+#[derive(Clone, Copy)]
 struct Ran {
     to: usize,
     tally: Tally,
@@ -43,7 +43,7 @@ fn keep(text: &mut [u8], from: usize, to: usize) -> usize
 }
 
 // After a piece: how much of it waits at the front, and whether the list goes on.
-#[derive(Drop)]
+#[derive(Clone, Copy)]
 struct Piece {
     held: usize,
     more: bool,

@@ -1,5 +1,7 @@
 // Runs the lists of cases that its arguments name through the proved calls. It prints how many cases there are, how many of them
 // came out otherwise than their line says, and a digest of all that was computed.
+#![tactic(auto)]
+
 mod case;
 mod list;
 mod words;

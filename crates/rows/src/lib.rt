@@ -1,4 +1,6 @@
 // The text of a listing: a header, a row with the index and the value of each sample, and the total.
+#![tactic(auto)]
+
 ghost use Rattle.std.specs.Prelude.{◌≡◌, ◌+◌, ◌*◌, ◌≤◌, ◌<◌, ◌^◌, min, length};
 ghost use Rattle.std.proofs.lemmas.List.Edits.{sets};
 ghost use Rattle.rows.specs.Text.{header_text, row_text, rows_text, end_text, row_most};

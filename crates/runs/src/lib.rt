@@ -1,5 +1,7 @@
 // Runs of G.722 over the filters alone: samples to bytes, and bytes to samples. One loop each for all rates, so that the step of a
 // byte is called in one place. They ask for room, and no user calls them: sessions and pieces do.
+#![tactic(auto)]
+
 pub mod rates;
 
 ghost use Rattle.std.specs.Prelude.{◌≡◌, ◌+◌, ◌<◌, ◌≤◌, length, set};

@@ -1,4 +1,6 @@
 // 16-bit samples: a sample's magnitude, its sign and size, and samples as bytes. docs/RULES.md, "Samples as bytes".
+#![tactic(auto)]
+
 ghost use Rattle.std.specs.Prelude.{◌≡◌, nat_abs};
 ghost use Rattle.samples.specs.Bytes.{sample_of, bits_of};
 ghost use Rattle.samples.specs.Lent.{encoding_number};
@@ -19,7 +21,7 @@ pub fn magnitude(s: i16) -> u32
 }
 
 // A number's sign, and its size: n of n and of -n - 1.
-#[derive(Drop)]
+#[derive(Clone, Copy)]
 pub struct Folded {
     pub negative: bool,
     pub size: u16,

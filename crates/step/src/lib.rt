@@ -1,4 +1,6 @@
 // One step of G.722 at either end: a byte to two samples, and two samples to a byte.
+#![tactic(auto)]
+
 mod qmf;
 
 ghost use Rattle.std.specs.Prelude.{◌≡◌, pos, ◌+ℤ◌};
@@ -9,7 +11,7 @@ ghost use Rattle.step.specs.Step.{LIMIT, decode_step, encode_step};
 use band::{Filters, adapt, quantise, update};
 
 // What one byte gives: the filters after it, and two samples.
-#[derive(Drop)]
+#[derive(Clone, Copy)]
 pub struct Decoded {
     pub filters: Filters,
     pub first: i16,
@@ -17,7 +19,7 @@ pub struct Decoded {
 }
 
 // What two samples give: the filters after them, and a byte.
-#[derive(Drop)]
+#[derive(Clone, Copy)]
 pub struct Encoded {
     pub filters: Filters,
     pub byte: u8,

@@ -3,7 +3,7 @@ ghost use Rattle.std.specs.Prelude.{◌≡◌};
 ghost use Rattle.band.specs.Tables.{QMF_COEFFS};
 ghost use Rattle.step.specs.Qmf.{taking, even_sum, odd_sum, IsSum, transmitted, received};
 
-#[derive(Drop)]
+#[derive(Clone, Copy)]
 pub(crate) struct Sums {
     pub even: i32,
     pub odd: i32,

@@ -7,7 +7,7 @@ use crate::number::{Number, has_byte, number_length, read_number, write_number};
 use crate::{NEWLINE, TAB};
 
 // How many bytes the fields and their newline take, or that something else stands there.
-#[derive(Drop)]
+#[derive(Clone, Copy)]
 pub enum Ending {
     After(usize),
     Faulty,

@@ -1,4 +1,6 @@
 // Decimal numbers and tab-parted fields, read at a place of a text and written into a lent buffer.
+#![tactic(auto)]
+
 pub mod fields;
 pub mod number;
 

@@ -7,14 +7,14 @@ ghost use Rattle.text.specs.Number.{digits, decimal, begins, begins_digit, run, 
 use crate::{MINUS, NINE, ZERO};
 
 // The number that some digits say, and how many they are.
-#[derive(Drop)]
+#[derive(Clone, Copy)]
 enum Magnitude {
     Digits { value: u64, count: usize },
     NoDigits,
 }
 
 // A number, and how many bytes its text takes.
-#[derive(Drop)]
+#[derive(Clone, Copy)]
 pub enum Number {
     Value { value: i64, count: usize },
     NoNumber,
