@@ -2,12 +2,13 @@
 // the value of each sample, and the total.
 #![tactic(auto)]
 
-ghost use Rattle.std.specs.Prelude.{◌≡◌, false, ◌+◌, ◌≤◌, ◌<◌, length};
+ghost use Rattle.std.specs.Prelude.{◌≡◌, ◌+◌, ◌≤◌, ◌<◌, length, IfOk};
 ghost use Rattle.g722.specs.Decoding.{decoder_after};
 ghost use Rattle.rows.specs.Listing.{Ready};
 
 use g722::Decoder;
-use libc::{STDERR_FILENO, STDIN_FILENO, STDOUT_FILENO};
+use std::io;
+use std::io::{Read, Write};
 
 const RATE: u32 = 16000;
 
@@ -21,7 +22,6 @@ const PIECE: usize = 1024;
 struct Listed {
     session: Decoder,
     more: bool,
-    failed: bool,
 }
 
 // Where the piece that begins at `at` ends.
@@ -32,21 +32,17 @@ fn piece_end(at: usize, end: usize) -> usize
     if end - at < PIECE { end } else { at + PIECE }
 }
 
-// Writes to standard output, and says on standard error where that fails.
-fn put(bytes: &[u8]) -> bool {
-    let written = io::write_all(STDOUT_FILENO, bytes);
-    if !written {
-        os::fail(b"standard output");
-    }
-    written
-}
-
 // Lists the bytes, piece by piece.
-fn list_bytes(bytes: &[u8], text: &mut [u8], before: Decoder) -> Listed
-    requires ready_2 { Ready before (length bytes.now) }
-    requires in_bounds { 36864 ≤ length text.old }
-    ensures ready { Ready result.session 0 }
-    ensures all { result.failed ≡ false → result.session ≡ decoder_after before bytes.now }
+fn list_bytes<W: Write>(
+    to: &mut W,
+    bytes: &[u8],
+    text: &mut [u8],
+    before: Decoder,
+) -> io::Result<Decoder>
+    requires ready { Ready before (length bytes.now) }
+    requires room { 36864 ≤ length text.old }
+    ensures ready { IfOk result (λ session. Ready session 0) }
+    ensures all { IfOk result (λ session. session ≡ decoder_after before bytes.now) }
 {
     let mut session = before;
     let mut at = 0;
@@ -55,88 +51,75 @@ fn list_bytes(bytes: &[u8], text: &mut [u8], before: Decoder) -> Listed
         let answer = rows::list(session.position as u64, &bytes[at..end], text, session);
         session = answer.session;
         let n = answer.count;
-        if !put(&text[..n]) {
-            return Listed {
-                session,
-                more: false,
-                failed: true,
-            };
-        }
+        to.write_all(&text[..n])?;
         at = end;
     }
-    Listed {
-        session,
-        more: true,
-        failed: false,
-    }
+    Ok(session)
 }
 
 // Reads once and lists what came, up to where the position ends.
-fn list_some(input: &mut [u8], text: &mut [u8], before: Decoder) -> Listed
+fn list_some<R: Read, W: Write, E: Write>(
+    from: &mut R,
+    to: &mut W,
+    told: &mut E,
+    input: &mut [u8],
+    text: &mut [u8],
+    before: Decoder,
+) -> io::Result<Listed>
     requires ready { Ready before 0 }
-    requires in_bounds { 36864 ≤ length text.old }
-    ensures { Ready result.session 0 }
+    requires room { 36864 ≤ length text.old }
+    ensures { IfOk result (λ listed. Ready listed.session 0) }
 {
-    let got = libc::read(STDIN_FILENO, input);
-    if got < 0 {
-        os::fail(b"standard input");
-        return Listed {
-            session: before,
-            more: false,
-            failed: true,
-        };
-    }
-    let n = io::count(got, input);
+    let n = from.read(input)?;
     let fit = rows::fitting(before.position, n);
-    let listed = list_bytes(&input[..fit], text, before);
-    let session = listed.session;
+    let session = list_bytes(to, &input[..fit], text, before)?;
     if fit < n {
-        io::write_all(
-            STDERR_FILENO,
-            b"stopped after 2147483647 bytes: a position is at most 4294967295\n",
-        );
+        told.write_all(b"stopped after 2147483647 bytes: a position is at most 4294967295\n")?;
     }
-    Listed {
+    Ok(Listed {
         session,
-        more: listed.more & (0 < n) & (fit == n),
-        failed: listed.failed,
-    }
+        more: (0 < n) & (fit == n),
+    })
 }
 
-// A proved loop has to end, and nothing says that standard input does. So it counts its turns down, from a number that no run uses up.
-fn list_all(input: &mut [u8], text: &mut [u8], begun: Decoder) -> Listed
+// A proved loop has to end, and nothing says that standard input does. So its turns are counted, up to a number that no run uses up.
+fn list_all<R: Read, W: Write, E: Write>(
+    from: &mut R,
+    to: &mut W,
+    told: &mut E,
+    input: &mut [u8],
+    text: &mut [u8],
+    begun: Decoder,
+) -> io::Result<Decoder>
     requires ready { Ready begun 0 }
-    requires in_bounds { 36864 ≤ length text.old }
+    requires room { 36864 ≤ length text.old }
 {
-    let mut listed = Listed {
-        session: begun,
-        more: true,
-        failed: false,
-    };
-    let mut turns = u64::MAX;
-    while turns > 0 && listed.more {
-        let session = listed.session;
-        listed = list_some(input, text, session);
-        turns -= 1;
+    let mut session = begun;
+    for _turn in 0..u64::MAX {
+        let listed = list_some(from, to, told, input, text, session)?;
+        session = listed.session;
+        if !listed.more {
+            break;
+        }
     }
-    listed
+    Ok(session)
 }
 
-fn main() {
-    let header = rows::header();
-    if !put(&header) {
-        return;
-    }
-    let mut input = io::large_buffer();
-    let mut text = io::large_buffer();
-    let begun = Decoder::begin(RATE, ZERO_START);
-    let session = begun.session;
-    let listed = list_all(&mut input, &mut text, session);
-    if listed.failed {
-        return;
-    }
-    let last = listed.session;
+fn main(rt: HostRuntime) -> io::Result<()> {
+    let mut to = rt.stdout();
+    to.write_all(&rows::header())?;
+    let mut input = [0u8; 65536];
+    let mut text = [0u8; 65536];
+    let begun = Decoder::begin(RATE, ZERO_START).session;
+    let last = list_all(
+        &mut rt.stdin(),
+        &mut to,
+        &mut rt.stderr(),
+        &mut input,
+        &mut text,
+        begun,
+    )?;
     let mut row = [0u8; rows::END_MOST];
     let n = rows::write_end(last.position as u64, &mut row);
-    put(&row[..n]);
+    to.write_all(&row[..n])
 }

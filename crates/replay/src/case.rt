@@ -16,39 +16,29 @@ pub struct Tally {
 }
 
 fn call_law(name: &[u8], input: &[u8], out: &mut [u8]) -> u32 {
-    if check::same(name, b"ue") {
-        return calls::rozimaha_pcmu_encode(input, out);
+    match name {
+        b"ue" => calls::rozimaha_pcmu_encode(input, out),
+        b"ud" => calls::rozimaha_pcmu_decode(input, out),
+        b"ae" => calls::rozimaha_pcma_encode(input, out),
+        b"ad" => calls::rozimaha_pcma_decode(input, out),
+        _ => u32::MAX,
     }
-    if check::same(name, b"ud") {
-        return calls::rozimaha_pcmu_decode(input, out);
-    }
-    if check::same(name, b"ae") {
-        return calls::rozimaha_pcma_encode(input, out);
-    }
-    if check::same(name, b"ad") {
-        return calls::rozimaha_pcma_decode(input, out);
-    }
-    u32::MAX
 }
 
 fn call_coder(name: &[u8], mark: &[u8], input: &[u8], out: &mut [u8], new_mark: &mut [u8]) -> u32 {
-    if check::same(name, b"ge") {
-        return calls::rozimaha_g722_encode(mark, input, out, new_mark);
+    match name {
+        b"ge" => calls::rozimaha_g722_encode(mark, input, out, new_mark),
+        b"gd" => calls::rozimaha_g722_decode(mark, input, out, new_mark),
+        _ => call_law(name, input, out),
     }
-    if check::same(name, b"gd") {
-        return calls::rozimaha_g722_decode(mark, input, out, new_mark);
-    }
-    call_law(name, input, out)
 }
 
 fn call_begin(name: &[u8], rate: u32, start: u32, mark: &mut [u8]) -> u32 {
-    if check::same(name, b"be") {
-        return calls::rozimaha_g722_begin_encoder(rate, start, mark);
+    match name {
+        b"be" => calls::rozimaha_g722_begin_encoder(rate, start, mark),
+        b"bd" => calls::rozimaha_g722_begin_decoder(rate, start, mark),
+        _ => u32::MAX,
     }
-    if check::same(name, b"bd") {
-        return calls::rozimaha_g722_begin_decoder(rate, start, mark);
-    }
-    u32::MAX
 }
 
 // Whether the call left these bytes alone.
@@ -110,7 +100,7 @@ fn clear(out: &mut [u8]) {
 // Whether the bytes are those that the word says, and all behind them was left alone; `wanted` is lent to work in.
 fn as_wanted(word: &[u8], out: &[u8], wanted: &mut [u8]) -> bool {
     let n = words::least(words::bytes(word, wanted), out.len());
-    let written = check::same(&out[..n], &wanted[..n]);
+    let written = &out[..n] == &wanted[..n];
     written & untouched(&out[n..])
 }
 
@@ -119,11 +109,11 @@ fn mark_as_wanted(word: &[u8], mark: &[u8]) -> bool {
     if word.len() == 0 {
         return true;
     }
-    if check::same(word, b"*") {
+    if word == b"*".as_slice() {
         return true;
     }
     let n = words::least(word.len(), mark.len());
-    let line = check::same(&mark[..n], word);
+    let line = &mark[..n] == word;
     let end = words::place_of(mark, n, b'\n');
     line & (end == n)
 }

@@ -1,8 +1,10 @@
 // A list of cases, read piece by piece: the whole lines of a piece are run, and what is left of the last one waits for more.
-ghost use Rattle.std.specs.Prelude.{◌≤◌, length};
+ghost use Rattle.std.specs.Prelude.{◌≤◌, length, IfOk};
 
 use crate::case::Tally;
 use crate::{case, words};
+use std::io;
+use std::io::Read;
 
 // How far a piece was run.
 #[derive(Clone, Copy)]
@@ -51,44 +53,52 @@ struct Piece {
 }
 
 // Reads once behind the `held` bytes that wait, and runs what is whole. At the end a last line needs no newline.
-fn run_piece(file: i32, text: &mut [u8], held: usize, mark: &mut [u8], before: Tally) -> Piece
+fn run_piece<R: Read>(
+    file: &mut R,
+    text: &mut [u8],
+    held: usize,
+    mark: &mut [u8],
+    before: Tally,
+) -> io::Result<Piece>
     requires { held ≤ length text.old }
-    ensures { result.held ≤ length text.new }
+    ensures { IfOk result (λ piece. piece.held ≤ length text.new) }
 {
-    let got = libc::read(file, &mut text[held..]);
-    let n = io::count(got, &text[held..]);
+    let n = file.read(&mut text[held..])?;
     if n == 0 {
         let tally = case::run_line(&text[0..held], mark, before);
-        return Piece {
+        return Ok(Piece {
             held: 0,
             more: false,
             tally,
-        };
+        });
     }
     let end = held + n;
     let ran = run_lines(&text[0..end], mark, before);
     let to = ran.to;
     let tally = ran.tally;
-    Piece {
+    Ok(Piece {
         held: keep(text, to, end),
         more: true,
         tally,
-    }
+    })
 }
 
-// A loop that is proved has to end, so it counts down from a number that no list uses up.
-pub(crate) fn run(file: i32, text: &mut [u8], mark: &mut [u8], before: Tally) -> Tally {
+// A loop that is proved has to end, so its turns are counted, up to a number that no list uses up.
+pub(crate) fn run<R: Read>(
+    file: &mut R,
+    text: &mut [u8],
+    mark: &mut [u8],
+    before: Tally,
+) -> io::Result<Tally> {
     let mut tally = before;
     let mut held = 0;
-    let mut pieces = u64::MAX;
-    while pieces > 0 {
-        let piece = run_piece(file, text, held, mark, tally);
+    for _piece in 0..u64::MAX {
+        let piece = run_piece(file, text, held, mark, tally)?;
         tally = piece.tally;
         if !piece.more {
-            return tally;
+            break;
         }
         held = piece.held;
-        pieces -= 1;
     }
-    tally
+    Ok(tally)
 }

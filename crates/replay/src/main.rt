@@ -7,43 +7,41 @@ mod list;
 mod words;
 
 use case::Tally;
-use libc::STDOUT_FILENO;
+use std::rt::Files;
+use std::{env, fs, io};
 
-fn print_row(name: &[u8], value: u64) {
-    io::write_all(STDOUT_FILENO, name);
-    io::write_all(STDOUT_FILENO, b"\t");
-    io::print_decimal(STDOUT_FILENO, value);
-    io::write_all(STDOUT_FILENO, b"\n");
-}
-
-fn run_file(path: &[u8], before: Tally) -> Tally {
-    let file = os::open_read(path);
-    if file < 0 {
-        os::fail(path);
-        return before;
+// A list that cannot be opened is told of, and the others are run.
+fn run_file(rt: &(impl Files + Eprint), path: &str, before: Tally) -> io::Result<Tally> {
+    match fs::open(rt, path) {
+        Ok(mut file) => {
+            let mut text = [0u8; 65536];
+            let mut mark = [0u8; 512];
+            list::run(&mut file, &mut text, &mut mark, before)
+        }
+        Err(e) => {
+            eprintln!(rt; "{path}: {e}")?;
+            Ok(before)
+        }
     }
-    let mut text = io::large_buffer();
-    let mut mark = [0u8; 512];
-    let after = list::run(file, &mut text, &mut mark, before);
-    libc::close(file);
-    after
 }
 
-fn main() {
+fn main(rt: HostRuntime) -> io::Result<()> {
     let mut tally = Tally {
         cases: 0,
         wrong: 0,
         digest: 0,
         held: 0,
     };
-    let mut i = 1;
-    while i < os::arg_count() {
-        let mut path = io::buffer();
-        let n = os::arg(i, &mut path);
-        tally = run_file(&path[..n], tally);
-        i += 1;
+    for path in env::args(&rt)?.skip(1) {
+        tally = run_file(&rt, path.as_str(), tally)?;
     }
-    print_row(b"cases", tally.cases);
-    print_row(b"wrong", tally.wrong);
-    print_row(b"digest", tally.digest);
+    let Tally {
+        cases,
+        wrong,
+        digest,
+        held: _,
+    } = tally;
+    println!(rt; "cases\t{cases}")?;
+    println!(rt; "wrong\t{wrong}")?;
+    println!(rt; "digest\t{digest}")
 }
