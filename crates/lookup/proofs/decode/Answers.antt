@@ -1,0 +1,15 @@
+-- The value of a byte a turn.
+use Rattle.std.proofs.Common.{rules, w16}
+use Rattle.std.proofs.lemmas.Bool.{le-ltb}
+use Rattle.std.proofs.lemmas.Int.{to_z-of_z}
+use Rattle.answers.proofs.Filling.{no_turn, turn, last_turn}
+use Rattle.lookup.proofs.decode.Goals as goal
+
+pub loop-i-init : goal.loop-i-init
+loop-i-init c = no_turn
+
+pub loop-i-preserved : goal.loop-i-preserved
+loop-i-preserved c = turn 0 c.loop-i.invariant c.loop-i-test.true (to_z-of_z w16 _ (search rules))
+
+pub returns-clause-out_after : goal.returns-clause-out_after
+returns-clause-out_after c = rw (le-ltb _ _ c.if-out-payload.false) (last_turn c.loop-i.invariant c.loop-i-test.false)
