@@ -1,5 +1,5 @@
 -- The value of a byte a turn.
-use Rattle.std.proofs.Common.{rules, w16}
+use Rattle.std.proofs.Common.{length, arith, rules, w16}
 use Rattle.std.proofs.lemmas.Bool.{le-ltb}
 use Rattle.std.proofs.lemmas.Int.{to_z-of_z}
 use Rattle.answers.proofs.Filling.{no_turn, turn, last_turn}
@@ -12,4 +12,6 @@ pub loop-i-preserved : goal.loop-i-preserved
 loop-i-preserved c = turn 0 c.loop-i.invariant c.loop-i-test.true (to_z-of_z w16 _ (search rules))
 
 pub returns-clause-out_after : goal.returns-clause-out_after
-returns-clause-out_after c = rw (le-ltb _ _ c.if-out-payload.false) (last_turn c.loop-i.invariant c.loop-i-test.false)
+returns-clause-out_after c =
+    rw (le-ltb (length c.args.out.now) (length c.args.payload.now) (omega arith))
+    (last_turn c.loop-i.invariant c.loop-i-test.false)
