@@ -1,9 +1,9 @@
 -- The table's rule gives the exponent, which is at most 7.
-use Rattle.std.proofs.Common.{◌≡◌, List, ℕ, zero, suc, ◌/◌, ◌^◌, ◌<◌, ◌≤◌, ℤ, zero-le, get_or, arith, w16}
-use Rattle.std.proofs.Math.Nat.{le_refl, le-suc, le_trans}
-use Rattle.std.proofs.lemmas.Int.{to_z-of_z}
 use Rattle.std.specs.Prelude.{leb}
 use Rattle.std.specs.Int.Signed.{non_neg}
+use Rattle.std.proofs.Common.{◌≡◌, List, ℕ, zero, suc, ◌/◌, ◌^◌, ◌<◌, ◌≤◌, ℤ, zero-le, get_or, arith, w16, ap, ◌∙◌}
+use Rattle.std.proofs.Math.Nat.{le_refl, le-suc, le_trans}
+use Rattle.std.proofs.lemmas.Int.{to_z-of_z}
 use Rattle.samples.proofs.Cond.{cond_le}
 use Rattle.lookup.proofs.Table.{entry}
 use Rattle.pcmu.specs.Mulaw.{sign_bit, biased, highest, exponent, exponents, mu_byte}
@@ -16,28 +16,27 @@ highest_le (suc k) n = cond_le (leb (2 ^ suc k) n) (le_refl (suc k)) (le_trans (
 sign_le : (z : ℤ) → sign_bit z ≤ 128
 sign_le z = cond_le (non_neg z) zero-le (le_refl 128)
 
-biased_lt : (z : ℤ) → biased z < 32768
-biased_lt z = omega arith
+module _ {table : List ℕ} (e : table ≡ exponents) (m : ℕ) (h : m < 32768) where
+  e_is : get_or table (m / 128) 0 ≡ exponent m
+  unfolding exponents
+  e_is = entry (highest 7) 0 256 e (m / 128) (omega arith)
 
-e_is : {table : List ℕ} → table ≡ exponents → (z : ℤ) → get_or table (biased z / 128) 0 ≡ exponent (biased z)
-unfolding exponents
-e_is e z = entry (highest 7) 0 256 e (biased z / 128) (omega (arith, biased_lt z))
-
-e_le : {table : List ℕ} → table ≡ exponents → (z : ℤ) → get_or table (biased z / 128) 0 ≤ 7
-e_le e z = rw (e_is e z) (highest_le 7 (biased z / 128))
+  e_le : get_or table (m / 128) 0 ≤ 7
+  e_le = rw e_is (highest_le 7 (m / 128))
 
 pub overflow_shr-mantissa : goal.overflow_shr-mantissa
-overflow_shr-mantissa c =
-    let s = to_z-of_z w16 c.args.s c.ranges.s in
-    rw (c.bias-m.ensures, s) (omega (arith, e_le c.requires c.args.s))
+overflow_shr-mantissa c = omega (arith, e_le c.requires c.bias-m.result (omega arith))
 
 pub overflow_sub-result : goal.overflow_sub-result
 overflow_sub-result c =
-    let s = to_z-of_z w16 c.args.s c.ranges.s in
-    rw (c.sign_bit.ensures, c.bias-m.ensures, s) (omega (arith, e_le c.requires c.args.s, sign_le c.args.s))
+    let small : c.sign_bit.result ≤ 128 = rw c.sign_bit.ensures (sign_le _) in
+    omega (arith, e_le c.requires c.bias-m.result (omega arith))
 
 pub returns : goal.returns
 unfolding mu_byte
 returns c =
     let s = to_z-of_z w16 c.args.s c.ranges.s in
-    rw (c.sign_bit.ensures, c.bias-m.ensures, s, e_is c.requires c.args.s)
+    let e = e_is c.requires c.bias-m.result (omega arith) in
+    let m : c.bias-m.result ≡ biased c.args.s = c.bias-m.ensures ∙ ap biased s in
+    let sign : c.sign_bit.result ≡ sign_bit c.args.s = c.sign_bit.ensures ∙ ap sign_bit s in
+    rw (sign, e, m)
