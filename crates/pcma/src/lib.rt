@@ -75,6 +75,7 @@ fn size_of(a: u8) -> u16
 }
 
 // The value of a byte, worked out by the rule.
+#[tactic(auto, unfolding(crate::specs::Alaw::a_value, crate::specs::Alaw::signed))]
 pub fn value(b: u8) -> i16
     ensures { result ≡ a_value b }
 {
