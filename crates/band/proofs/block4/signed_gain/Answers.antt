@@ -11,8 +11,7 @@ use Rattle.fixed.proofs.Signs.{kept, not_negative}
 use Rattle.fixed.proofs.Wide.{gives_lit}
 use Rattle.fixed.proofs.Half.{negative, positive}
 use Rattle.band.specs.Block4.{gain}
-use Rattle.band.proofs.block4.signed_gain.Statement.{statement}
-use Rattle.band.proofs.block4.signed_gain.Tie as tie
+use Rattle.band.proofs.block4.signed_gain.Goals as goal
 
 gain_below : (d : ℤ) → lt_z d (pos 0) ≡ true → minus 128 ≡ signed_by d (gain d)
 unfolding signed_by
@@ -29,18 +28,11 @@ gain_zero (pos zero) e g = sym (kept zero (pos 0))
 gain_zero (pos (suc n)) e g = let h : suc n ≤ 0 = leb→le (suc n) 0 (nlt (pos 0) (pos (suc n)) g).le in absurd (omega arith)
 gain_zero (negsuc n) e g = absurd (true≢false e)
 
-returns : tie.Need-returns
-returns c = gives_lit (minus 128) (gain_below c.before.args.d (negative c.before.ranges.d c.if1.true)) tt tt
+pub returns-then-d-lt0 : goal.returns-then-d-lt0
+returns-then-d-lt0 c = gives_lit (minus 128) (gain_below c.args.d (negative c.ranges.d c.if-d-lt0.true)) tt tt
 
-returns-2 : tie.Need-returns-2
-returns-2 c =
-    let s = c.before.before in
-    gives_lit (pos 128) (gain_above s.args.d (positive s.ranges.d c.if2.true)) tt tt
+pub returns-then-d-gt0 : goal.returns-then-d-gt0
+returns-then-d-gt0 c = gives_lit (pos 128) (gain_above c.args.d (positive c.ranges.d c.if-d-gt0.true)) tt tt
 
-returns-3 : tie.Need-returns-3
-returns-3 c =
-    let s = c.before.before in
-    gives_lit (pos 0) (gain_zero s.args.d (negative s.ranges.d c.before.if1.false) (positive s.ranges.d c.if2.false)) tt tt
-
-pub signed_gain_spec : {M : Type 1} → statement M
-signed_gain_spec = tie.close (tie.spec returns returns-2 returns-3)
+pub returns : goal.returns
+returns c = gives_lit (pos 0) (gain_zero c.args.d (negative c.ranges.d c.if-d-lt0.false) (positive c.ranges.d c.if-d-gt0.false)) tt tt
