@@ -1,5 +1,5 @@
-use Prim.Native.Nat.{ℕ}
 use borrow.Author.Rules.{rules}
+use Prim.Native.Nat.{ℕ}
 use lib.IntN.{pos}
 use lib.ListN.{get_or}
 use mathlib.Core.Bool.{true, ◌&&◌}
@@ -9,7 +9,7 @@ use mir.Val.{SFits}
 use Rattle.fixed.specs.Number.{minus}
 use Rattle.fixed.proofs.Wide.{any, at1, at2, at3, fits16_of, from16, lit, neg, sub}
 use Rattle.band.specs.declared.Band.{Band}
-use Rattle.band.specs.Bounds.{a2_most, a1_and_a2_most, det_most, all_words, band_in_bounds, between, numbers}
+use Rattle.band.specs.Bounds.{a2_most, a1_and_a2_most, det_most, all_words, all_between, band_in_bounds, between, numbers}
 use Rattle.band.proofs.Boxes.{band_in, word_at, word_told}
 use Rattle.band.proofs.Band.in_bounds.Goals as goal
 
@@ -18,7 +18,7 @@ field : (k : Band) → all_words (numbers k) ≡ true → (i : ℕ) → SFits w1
 field k words i = fits16_of (word_at (numbers k) words i)
 
 pub returns : goal.returns
-unfolding band_in_bounds
+unfolding band_in_bounds all_between
 returns c =
     let words : all_words (numbers c.args.self) ≡ true = search (rules, band_in, word_told) in
     let at = field c.args.self words in

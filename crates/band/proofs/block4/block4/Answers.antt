@@ -1,5 +1,5 @@
-use Prim.Native.Nat.{ℕ, ◌<◌, ◌^◌}
 use borrow.Author.Rules.{rules}
+use Prim.Native.Nat.{ℕ, ◌<◌, ◌^◌}
 use lib.IntN.{ℤ, pos, ◌+ℤ◌}
 use lib.ListN.{get_or}
 use lib.Signed.{mag}
@@ -11,7 +11,7 @@ use Rattle.fixed.proofs.Signs.{twice_signed}
 use Rattle.fixed.proofs.Wide.{E, call, fits16_of, rd, read}
 use Rattle.fixed.proofs.Half.{H, ans, h1, h2, h4, h5, half, readh, rh}
 use Rattle.band.specs.declared.Band.{Band}
-use Rattle.band.specs.Bounds.{all_words, numbers}
+use Rattle.band.specs.Bounds.{all_between, all_words, numbers}
 use Rattle.band.specs.Block4.{FILTEP, FILTEZ, UPPOL1, UPPOL2, UPZERO, gain}
 use Rattle.band.proofs.Boxes.{band_in, word_at, word_told}
 use Rattle.band.proofs.block4.block4.Goals as goal
@@ -28,7 +28,7 @@ zero d {di = di} {bi = bi} g h k e f =
     ans e ((λ t. sat (signed_by (readh h t) (read g t) +ℤ scaled_by (readh k t) (pos 32640))) ∙ by-rule) f
 
 pub returns : goal.returns
-unfolding zip_with
+unfolding zip_with all_between
 returns c =
     let words : all_words (numbers c.args.band) ≡ true = search (rules, band_in, word_told) in
     let k = field c.args.band words in

@@ -1,6 +1,6 @@
+use borrow.Author.Rules.{rules}
 use Prim.Native.Nat.{ℕ, ◌+◌, ◌*◌, ◌≤◌, zero-le}
 use native.Mathlib.Omega.{arith}
-use borrow.Author.Rules.{rules}
 use lib.Dec.{le→leb}
 use lib.IntN.{ℤ, pos}
 use lib.ListN.{get_or}
@@ -10,7 +10,7 @@ use Rattle.fixed.specs.Number.{In}
 use Rattle.fixed.proofs.Wide.{fits16_of, read, var}
 use Rattle.fixed.proofs.Half.{H, ans, h1, half, readh, scales}
 use Rattle.band.specs.declared.Band.{Band}
-use Rattle.band.specs.Bounds.{all_words, numbers}
+use Rattle.band.specs.Bounds.{all_between, all_words, numbers}
 use Rattle.band.specs.Block4.{BLOCK4}
 use Rattle.band.specs.Adapt.{LOGSC, SCALE}
 use Rattle.band.proofs.Boxes.{band_in, word_at, word_told}
@@ -27,6 +27,7 @@ most_in {base = base} h e = subst (In (pos 0) (pos 32767)) (sym e) (record {
 })
 
 pub returns : goal.returns
+unfolding all_between
 returns c =
     let words : all_words (numbers c.args.band) ≡ true = search (rules, band_in, word_told) in
     let k = field c.args.band words in
