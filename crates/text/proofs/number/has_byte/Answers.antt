@@ -1,0 +1,13 @@
+-- A byte inside the text is the first of what stands from there; past the end nothing stands.
+use Rattle.std.proofs.Common.{drop_of_length-le}
+use Rattle.text.specs.Number.{begins}
+use Rattle.text.proofs.Scan.{here}
+use Rattle.text.proofs.number.has_byte.Goals as goal
+
+pub returns-then-at-s : goal.returns-then-at-s
+unfolding begins
+returns-then-at-s c = rw (here c.args.s.now c.args.at c.if-at-s.true)
+
+pub returns : goal.returns
+unfolding begins
+returns c = rw (drop_of_length-le c.args.s.now c.if-at-s.false)
