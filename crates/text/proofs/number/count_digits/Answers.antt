@@ -1,4 +1,4 @@
-use Rattle.std.proofs.Common.{arith, sym, ◌∙◌, ◌≤◌}
+use Rattle.std.proofs.Common.{arith, sym, ◌∙◌}
 use Rattle.text.proofs.Scan.{DigitAt, digit_at, no_digit}
 use Rattle.text.proofs.number.count_digits.Goals as goal
 
