@@ -1,5 +1,5 @@
 -- Where a sign meets a magnitude in 64 bits: a magnitude below 10 ^ 10 as a signed number, and a signed number's magnitude.
-use mathlib.Core.Path.{◌≡◌, refl, ap, ◌∙◌}
+use mathlib.Core.Path.{◌≡◌, refl, sym, ap, ◌∙◌}
 use mathlib.Core.Bool.{Bool, true, false}
 use Prim.Native.Nat.{ℕ, zero, suc, ◌+◌, ◌^◌, ◌≤◌, ◌<◌}
 use native.Mathlib.Nat.{zero-add}
@@ -15,11 +15,11 @@ use borrow.Author.Tests.{lt-ltb}
 use lib.ListN.{length}
 use mathlib.Core.List.{List, ◌∷◌}
 use Rattle.text.specs.Ascii.{MINUS}
-use Rattle.text.specs.Number.{digits, decimal, Short, negated, read_number}
+use Rattle.text.specs.Number.{digits, decimal, Short, magnitude, negated, read_number}
 use Rattle.text.specs.declared.number.Magnitude.TheVariants.{Digits}
 use Rattle.text.specs.declared.number.Number.TheVariants.{Value}
 use Rattle.text.proofs.Digits.{count_le}
-use Rattle.text.proofs.NumberTexts.{decimal_read}
+use Rattle.text.proofs.NumberTexts.{digits_bounds, decimal_read}
 use Rattle.text.proofs.Tests.{false_is_true}
 
 pub short_fits : (v : ℤ) → Short v → SFits w64 v
@@ -41,6 +41,11 @@ minus_fits (suc n) z h = rw (minus_is n h) (record { sfits = omega arith })
 pub negated_is : (n k : ℕ) → (n ≡ 0 → ⊥) → n < 10 ^ 10 → Value (to_z w64 (of_z w64 (pos 0 -ℤ to_z w64 n))) (k + 1) ≡ negated (Digits n k)
 negated_is zero k z h = absurd (z refl)
 negated_is (suc n) k z h = ap (λ (x : ℤ). Value x (k + 1)) (to_z-of_z (minus_fits (suc n) z h) ∙ minus_is n h)
+
+-- the same of the digits that a text begins with
+pub negative_is : (l : List ℕ) (n k : ℕ) → Digits n k ≡ magnitude l → (n ≡ 0 → ⊥)
+    → Value (to_z w64 (of_z w64 (pos 0 -ℤ to_z w64 n))) (k + 1) ≡ negated (magnitude l)
+negative_is l n k e z = negated_is n k z (digits_bounds l n k (sym e)).0 ∙ ap negated e
 
 pub plain_fits : (v : ℤ) → SFits w64 v → non_neg v ≡ true → T (non_neg v) × Fits w64 (nat_abs v)
 plain_fits (pos n) f e = (tt, record { fits = omega (arith, f.sfits) })

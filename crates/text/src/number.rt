@@ -80,6 +80,7 @@ fn read_magnitude(s: &[u8], at: usize) -> Magnitude
 }
 
 // Reads the number whose minus stands before `at`.
+#[tactic(auto, using(crate::proofs::Signed::negative_is))]
 fn read_negative(s: &[u8], at: usize) -> Number
     ensures { result ≡ negated (magnitude (drop at s.now)) }
 {

@@ -1,23 +1,20 @@
 -- The magnitude is below 10 ^ 10, so that it and its negative fit.
-use Rattle.std.proofs.Common.{sym, ap, ◌∙◌, ◌≤◌, ◌<◌, ◌^◌, arith}
-use Rattle.text.specs.Number.{negated}
+use Rattle.std.proofs.Common.{sym, ◌∙◌, ℕ, zero, suc, ◌<◌, ◌^◌, pos, ◌-ℤ◌, arith, w64, SFits, to_z}
 use Rattle.text.proofs.NumberTexts.{digits_bounds}
-use Rattle.text.proofs.Signed.{minus_fits, negated_is}
+use Rattle.text.proofs.Signed.{minus_fits}
 use Rattle.text.proofs.number.read_negative.Goals as goal
 
-bounds : (c : goal.Else-value-eq0) → (c.in-Digits.value < 10 ^ 10) × (c.in-Digits.count ≤ 10)
-bounds c = digits_bounds _ _ _ (sym c.read_magnitude-m.ensures ∙ c.in-Digits.is)
+minus_any : (n : ℕ) → n < 10 ^ 10 → SFits w64 (pos 0 -ℤ to_z w64 n)
+minus_any zero h = record { sfits = omega arith }
+minus_any (suc n) h = minus_fits (suc n) (λ e. omega (arith, e)) h
 
 pub overflow_cast-result : goal.overflow_cast-result
-overflow_cast-result c = record { sfits = omega (arith, (bounds c).0) }
+overflow_cast-result c =
+    record { sfits = omega (arith, (digits_bounds _ _ _ (sym c.read_magnitude-m.ensures ∙ c.in-Digits.is)).0) }
 
 pub overflow_sub-result : goal.overflow_sub-result
-overflow_sub-result c = minus_fits c.in-Digits.value c.if-value-eq0.false (bounds c).0
+overflow_sub-result c =
+    minus_any c.in-Digits.value (digits_bounds _ _ _ (sym c.read_magnitude-m.ensures ∙ c.in-Digits.is)).0
 
 pub overflow_add-result : goal.overflow_add-result
-overflow_add-result c = omega (arith, (bounds c).1)
-
-pub returns-else-value-eq0 : goal.returns-else-value-eq0
-returns-else-value-eq0 c =
-    negated_is c.in-Digits.value c.in-Digits.count c.if-value-eq0.false (bounds c).0
-    ∙ ap negated (sym c.in-Digits.is ∙ c.read_magnitude-m.ensures)
+overflow_add-result c = omega (arith, (digits_bounds _ _ _ (sym c.read_magnitude-m.ensures ∙ c.in-Digits.is)).1)
