@@ -14,7 +14,7 @@ unfoldable pub digits_in : ℕ → ℕ → List ℕ
 digits_in zero n = (ZERO + n) ∷ []
 digits_in (suc steps) n = let more = digits_in steps (n / 10) ++ (ZERO + n % 10) ∷ [] in cond (ltb n 10) ((ZERO + n) ∷ []) more
 
--- n steps are always enough: `digits-one` and `digits_last` of proofs/Digits.antt are the equations to expect
+-- n steps are always enough: `digits_one` and `digits_last` of proofs/Digits.antt are the equations to expect
 unfoldable pub digits : ℕ → List ℕ
 digits n = digits_in n n
 
