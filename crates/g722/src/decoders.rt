@@ -15,6 +15,7 @@ impl Decoder {
 
     pub const MARK_LENGTH_MOST: usize = 512;
 
+    #[tactic(auto, unfolding(crate::specs::Decoding::decoder_begun))]
     pub fn begin(rate: u32, start: u8) -> DecoderAnswer
         ensures { result ≡ decoder_begun rate start }
     {
@@ -32,6 +33,7 @@ impl Decoder {
         }
     }
 
+    #[tactic(auto, unfolding(crate::specs::Session::session_in_bounds))]
     pub fn in_bounds(self) -> bool
         ensures { result ≡ decoder_in_bounds self }
     {
@@ -40,6 +42,7 @@ impl Decoder {
     }
 
     // The number that n bytes and room for so many samples are answered with.
+    #[tactic(auto, unfolding(crate::specs::Decoding::decode_number))]
     pub fn decode_number(self, n: usize, room: usize) -> u8
         ensures { result ≡ decode_number self n room }
     {

@@ -17,6 +17,7 @@ impl Encoder {
 
     pub const MARK_LENGTH_MOST: usize = 512;
 
+    #[tactic(auto, unfolding(crate::specs::Encoding::encoder_begun))]
     pub fn begin(rate: u32, start: u8) -> EncoderAnswer
         ensures { result ≡ encoder_begun rate start }
     {
@@ -34,6 +35,7 @@ impl Encoder {
         }
     }
 
+    #[tactic(auto, unfolding(crate::specs::Session::session_in_bounds))]
     pub fn in_bounds(self) -> bool
         ensures { result ≡ encoder_in_bounds self }
     {
@@ -42,6 +44,7 @@ impl Encoder {
     }
 
     // The number that n samples and room for so many bytes are answered with.
+    #[tactic(auto, unfolding(crate::specs::Encoding::encode_number))]
     pub fn encode_number(self, n: usize, room: usize) -> u8
         ensures { result ≡ encode_number self n room }
     {
@@ -62,6 +65,7 @@ impl Encoder {
     }
 
     // The same of n bytes that stand for samples.
+    #[tactic(auto, unfolding(crate::specs::Encoding::encode_from_bytes_number))]
     pub fn encode_from_bytes_number(self, n: usize, room: usize) -> u8
         ensures { result ≡ encode_from_bytes_number self n room }
     {

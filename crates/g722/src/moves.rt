@@ -5,6 +5,7 @@ ghost use Rattle.g722.specs.Session.{encoder_moves, decoder_moves};
 use runs::rates;
 
 // How far n samples move an encoder's position.
+#[tactic(auto, unfolding(crate::specs::Session::encoder_moves))]
 pub(crate) fn encoder_moves(rate: u32, n: usize) -> usize
     ensures { result ≡ encoder_moves rate n }
 {
@@ -12,6 +13,7 @@ pub(crate) fn encoder_moves(rate: u32, n: usize) -> usize
 }
 
 // How far n bytes move a decoder's position.
+#[tactic(auto, unfolding(crate::specs::Session::decoder_moves))]
 pub(crate) fn decoder_moves(rate: u32, n: usize) -> usize
     requires { n < 2 ^ 63 }
     ensures { result ≡ decoder_moves rate n }
@@ -20,6 +22,7 @@ pub(crate) fn decoder_moves(rate: u32, n: usize) -> usize
 }
 
 // Whether n bytes move a decoder's position further than there is left.
+#[tactic(auto, unfolding(crate::specs::Session::decoder_moves))]
 pub(crate) fn decoder_passes(rate: u32, n: usize, left: usize) -> bool
     ensures { result ≡ ltb left (decoder_moves rate n) }
 {

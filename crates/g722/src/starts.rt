@@ -9,6 +9,7 @@ const LOW_DET: i16 = 32;
 
 const HIGH_DET: i16 = 8;
 
+#[tactic(auto, unfolding(crate::specs::Session::begin_number))]
 pub(crate) fn begin_number(start: u8) -> u8
     ensures { result ≡ begin_number start }
 {
@@ -18,6 +19,7 @@ pub(crate) fn begin_number(start: u8) -> u8
     answers::DONE
 }
 
+#[tactic(auto, unfolding(crate::specs::Session::start_begun))]
 pub(crate) fn start_begun(start: u8) -> u8
     ensures { result ≡ start_begun start }
 {
