@@ -12,32 +12,28 @@ ghost use Rattle.calls.specs.G722.{decoder_of, decode_call_number, decode_call_o
 
 use g722::{Decoder, DecoderAnswer, Encoder, EncoderAnswer};
 
-#[unsafe(no_mangle)]
-pub extern "C" fn rozimaha_pcmu_encode(input: &[u8], out: &mut [u8]) -> u32
+pub fn rozimaha_pcmu_encode(input: &[u8], out: &mut [u8]) -> u32
     ensures value { result ≡ from_bytes_number input.now out.old }
     ensures out_after { out.new ≡ from_bytes_output mu_byte input.now out.old }
 {
     pcmu::encode_from_bytes(input, out).number as u32
 }
 
-#[unsafe(no_mangle)]
-pub extern "C" fn rozimaha_pcmu_decode(input: &[u8], out: &mut [u8]) -> u32
+pub fn rozimaha_pcmu_decode(input: &[u8], out: &mut [u8]) -> u32
     ensures value { result ≡ to_bytes_number input.now out.old }
     ensures out_after { out.new ≡ to_bytes_output mu_value input.now out.old }
 {
     pcmu::decode_to_bytes(input, out).number as u32
 }
 
-#[unsafe(no_mangle)]
-pub extern "C" fn rozimaha_pcma_encode(input: &[u8], out: &mut [u8]) -> u32
+pub fn rozimaha_pcma_encode(input: &[u8], out: &mut [u8]) -> u32
     ensures value { result ≡ from_bytes_number input.now out.old }
     ensures out_after { out.new ≡ from_bytes_output a_byte input.now out.old }
 {
     pcma::encode_from_bytes(input, out).number as u32
 }
 
-#[unsafe(no_mangle)]
-pub extern "C" fn rozimaha_pcma_decode(input: &[u8], out: &mut [u8]) -> u32
+pub fn rozimaha_pcma_decode(input: &[u8], out: &mut [u8]) -> u32
     ensures value { result ≡ to_bytes_number input.now out.old }
     ensures out_after { out.new ≡ to_bytes_output a_value input.now out.old }
 {
@@ -74,13 +70,7 @@ fn encoder_of(mark: &[u8]) -> EncoderAnswer
 }
 
 // Restores the mark into a fresh encoder, encodes the samples, and writes the new mark.
-#[unsafe(no_mangle)]
-pub extern "C" fn rozimaha_g722_encode(
-    mark: &[u8],
-    input: &[u8],
-    out: &mut [u8],
-    next: &mut [u8],
-) -> u32
+pub fn rozimaha_g722_encode(mark: &[u8], input: &[u8], out: &mut [u8], next: &mut [u8]) -> u32
     ensures value { result ≡ encode_call_number mark.now input.now out.old next.old }
     ensures out_after { out.new ≡ encode_call_out mark.now input.now out.old next.old }
     ensures next_after { next.new ≡ encode_call_mark mark.now input.now out.old next.old }
@@ -104,13 +94,7 @@ fn decoder_of(mark: &[u8]) -> DecoderAnswer
 }
 
 // Restores the mark into a fresh decoder, decodes the bytes, and writes the new mark.
-#[unsafe(no_mangle)]
-pub extern "C" fn rozimaha_g722_decode(
-    mark: &[u8],
-    input: &[u8],
-    out: &mut [u8],
-    next: &mut [u8],
-) -> u32
+pub fn rozimaha_g722_decode(mark: &[u8], input: &[u8], out: &mut [u8], next: &mut [u8]) -> u32
     ensures value { result ≡ decode_call_number mark.now input.now out.old next.old }
     ensures out_after { out.new ≡ decode_call_out mark.now input.now out.old next.old }
     ensures next_after { next.new ≡ decode_call_mark mark.now input.now out.old next.old }
@@ -127,8 +111,7 @@ pub extern "C" fn rozimaha_g722_decode(
 }
 
 // Writes the mark of a fresh encoder.
-#[unsafe(no_mangle)]
-pub extern "C" fn rozimaha_g722_begin_encoder(rate: u32, start: u32, mark: &mut [u8]) -> u32
+pub fn rozimaha_g722_begin_encoder(rate: u32, start: u32, mark: &mut [u8]) -> u32
     ensures value { result ≡ encoder_begin_number rate start mark.old }
     ensures mark_after { mark.new ≡ encoder_begin_mark rate start mark.old }
 {
@@ -140,8 +123,7 @@ pub extern "C" fn rozimaha_g722_begin_encoder(rate: u32, start: u32, mark: &mut 
 }
 
 // Writes the mark of a fresh decoder.
-#[unsafe(no_mangle)]
-pub extern "C" fn rozimaha_g722_begin_decoder(rate: u32, start: u32, mark: &mut [u8]) -> u32
+pub fn rozimaha_g722_begin_decoder(rate: u32, start: u32, mark: &mut [u8]) -> u32
     ensures value { result ≡ decoder_begin_number rate start mark.old }
     ensures mark_after { mark.new ≡ decoder_begin_mark rate start mark.old }
 {
