@@ -44,7 +44,7 @@ pub record CallLaws {k : Kind} (c : CCalls k) : Type 0 where
       → let s = k.after (fresh k rate start) h in k.restore (fresh k 16000 0) line ≡ done_with s → k.InBounds s
       → c.number line input out next
       ≡ call_number 0 (cond (half input) odd_count (k.number_at rate h (c.input input) (room (length out)))) (length next)
-  pub code_out_lem : (line input out next : List ℕ) → c.out line input out next
+  pub code_output : (line input out next : List ℕ) → c.out line input out next
       ≡ leaves (c.number line input out next) (c.as_bytes (k.output (k.restore (fresh k 16000 0) line).session (items_of c input))) out
   pub code_mark : (line input out next : List ℕ) → c.mark line input out next
       ≡ leaves (c.number line input out next) (line_of (k.after (k.restore (fresh k 16000 0) line).session (items_of c input))) next

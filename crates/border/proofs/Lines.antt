@@ -60,7 +60,7 @@ module _ {k : Kind} (l : Laws k) {c : CCalls k} (o : CallLaws c) where
 
   refused_same : {before after : List ℕ} → Refused c before after → after ≡ before
   refused_same (begin rate start mark e) = o.begin_mark_lem rate start mark ∙ rw (ne_eqb (c.begin_number rate start mark) 0 e)
-  refused_same (output line input out next e) = o.code_out line input out next ∙ rw (ne_eqb (c.number line input out next) 0 e)
+  refused_same (output line input out next e) = o.code_output line input out next ∙ rw (ne_eqb (c.number line input out next) 0 e)
   refused_same (new_mark line input out next e) = o.code_mark line input out next ∙ rw (ne_eqb (c.number line input out next) 0 e)
 
   -- ---- a line that stands for a history
@@ -111,7 +111,7 @@ module _ {k : Kind} (l : Laws k) {c : CCalls k} (o : CallLaws c) where
       bytes = c.as_bytes (k.output there (items_of c input))
 
       out_is : c.out line input out next ≡ bytes ++ drop (c.count rate (length input)) out
-      out_is = o.code_out line input out next ∙ rw (e, restored) (first_items bytes out _ (o.counted rate start h input) fits)
+      out_is = o.code_output line input out next ∙ rw (e, restored) (first_items bytes out _ (o.counted rate start h input) fits)
 
       given_is : given c rate line input out next ≡ bytes
       given_is = rw out_is (take_at bytes _ _ (o.counted rate start h input))
@@ -149,7 +149,7 @@ module _ {k : Kind} (l : Laws k) {c : CCalls k} (o : CallLaws c) where
 
   -- ---- work
 
-  work_stands : {line end : List ℕ} {rate start : ℕ} {h xs : List k.Item} {ys : List ℕ} → StandsFor k line rate start h
+  work_stands : {line : List ℕ} {rate start : ℕ} {end : List ℕ} {h xs : List k.Item} {ys : List ℕ} → StandsFor k line rate start h
       → Work c rate line xs ys end → StandsFor k end rate start (h ++ xs)
   work_stands {h = h} m still = rw (append-nil h) m
   work_stands {rate = rate} {start} {h} m (coded {xs} {at = at} w input out next b e) =
@@ -157,7 +157,7 @@ module _ {k : Kind} (l : Laws k) {c : CCalls k} (o : CallLaws c) where
       (new_stands (work_stands m w) input out next e b)
   work_stands m (refused w r) = rw (refused_same r) (work_stands m w)
 
-  work_gives : {line end : List ℕ} {rate start : ℕ} {h xs : List k.Item} {ys : List ℕ} → StandsFor k line rate start h
+  work_gives : {line : List ℕ} {rate start : ℕ} {end : List ℕ} {h xs : List k.Item} {ys : List ℕ} → StandsFor k line rate start h
       → Work c rate line xs ys end → run c rate start (h ++ xs) ≡ run c rate start h ++ ys
   work_gives {rate = rate} {start} {h} m still = next_none (run c rate start) h
   work_gives {rate = rate} {start} {h} m (coded {xs} {ys} w input out next b e) =
@@ -229,7 +229,7 @@ module _ {k : Kind} (l : Laws k) {c : CCalls k} (o : CallLaws c) where
         let g = rw (← append_assoc before (items_of c p) (items_in c ps)) at f in
         let out = zeros (c.count rate (length p)) in
         let e = answers m p out buffer ∙ takes before p t.1.0 (fits_front (before ++ items_of c p) (items_in c ps) g) in
-        let rest = workers_for (new_stands m p out buffer e t.0) ps t.1.1 g in
+        let rest = workers_for {line = new_line c line p out buffer} {before = before ++ items_of c p} (new_stands m p out buffer e t.0) ps t.1.1 g in
         (given c rate line p out buffer ++ rest.0, then m (coded still p out buffer t.0 e) rest.1)
 
   cut_at_will : (rate start : ℕ) (pieces : List (List ℕ)) → start ≤ 1 → rate < 2 ^ 32 → Pieces c rate pieces
@@ -245,7 +245,7 @@ module _ {k : Kind} (l : Laws k) {c : CCalls k} (o : CallLaws c) where
     stands = stands;
     gave = gave;
     one_run = one_run;
-    leads = work_stands;
+    leads = λ m w. work_stands m w;
     same_line = λ m n. line_is m ∙ sym (line_is n);
     begins = begins;
     workers = workers;
