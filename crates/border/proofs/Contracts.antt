@@ -1,4 +1,4 @@
--- What the contracts of the C calls allow is what `encoderCalls` and `decoderCalls` say, so lines are lines of the code's own calls.
+-- What the contracts of the C calls allow is what `encoder_calls` and `decoder_calls` say, so lines are lines of the code's own calls.
 use mathlib.Core.Path.{◌≡◌}
 use Rattle.history.proofs.Contracts.{Says}
 use Rattle.calls.proofs.rozimaha_g722_encode.Kinds as encode-k

@@ -1,7 +1,7 @@
 -- A decoder whose history is the bytes of an encoder from the same start has the encoder's bands, number for number, whatever the
 -- two rates.
 use Prim.Native.Nat.{ℕ}
-use mathlib.Core.Path.{ap}
+use mathlib.Core.Path.{◌≡◌, refl, ap}
 use mathlib.Core.List.{List, []}
 use lib.IntN.{ℤ}
 use Rattle.band.specs.declared.Filters.{Filters}
@@ -15,16 +15,21 @@ use Rattle.history.specs.Encoding.{encoding}
 use Rattle.history.specs.Decoding.{decoding}
 use Rattle.history.proofs.Histories.{encoders, decoders}
 
+-- what two sessions of such histories have, as the runs over them stand
+agree : {e : Encoder} {d : Decoder} {rate rate' start : ℕ} {xs : List ℤ} → Life encoding e rate start xs → {bs : List ℕ}
+    → Life decoding d rate' start bs → bs ≡ encoded_bytes (fresh encoding rate start) xs → SameBands e.filters d.filters
+agree {e} {d} {rate} {rate'} {start} {xs} p q is =
+    let begun = begun_agree rate rate' start in
+    rw ((encoders.unbroken p).session, (decoders.unbroken q).session, is)
+    (sessions_agree (fresh encoding rate start) (fresh decoding rate' start) xs
+    (record { low = ap (λ (f : Filters). f.low) begun; high = ap (λ (f : Filters). f.high) begun }))
+
 -- any two lives, begun, cut, refused and restored at will
 pub bands_agree : {e : Encoder} {d : Decoder} {rate rate' start : ℕ} {xs : List ℤ} → Life encoding e rate start xs
     → Life decoding d rate' start (encoded_bytes (fresh encoding rate start) xs) → SameBands e.filters d.filters
-bands_agree {e} {d} {rate} {rate'} {start} {xs} p q =
-    let begun = begun_agree rate rate' start in
-    rw ((encoders.unbroken p).session, (decoders.unbroken q).session)
-    (sessions_agree (fresh encoding rate start) (fresh decoding rate' start) xs
-    (record { low = ap (λ (f : Filters). f.low) begun; high = ap (λ (f : Filters). f.high) begun }))
+bands_agree p q = agree p q refl
 
 -- the same where the decoder's history is the bytes as workers wrote them, one after the other
 pub workers_bands_agree : {e : Encoder} {d : Decoder} {rate rate' start : ℕ} {xs : List ℤ} {bs : List ℕ} → Life encoding e rate start xs
     → Workers encoding rate start [] xs bs → Life decoding d rate' start bs → SameBands e.filters d.filters
-workers_bands_agree p w q = bands_agree p (rw (encoders.workers w) at q)
+workers_bands_agree p w q = agree p q (encoders.workers w)

@@ -23,7 +23,7 @@ pub record Kind : Type 1 where
   -- the number that evenness, room and position give a coding call at a rate, after a history, of an input into a room
   pub number_at : ℕ → List Item → Input → ℕ → ℕ
   -- the public calls: begin takes a rate and a start; code an input and the output's room; write the room for a mark;
-  -- restore a text. `codeOut` and `writeOut` are what code and write make of the contents of the output
+  -- restore a text. `code_out` and `write_out` are what code and write make of the contents of the output
   pub begin : ℕ → ℕ → Reply Session
   pub code : Session → Input → ℕ → Reply Session
   pub code_out : Session → Input → List Out → List Out
