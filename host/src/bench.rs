@@ -122,7 +122,7 @@ fn run(program: &Path, word: Option<&str>, input: &Path) {
 pub fn listing() -> Result<(), String> {
     let ours = Path::new("target/bin/listing");
     if !ours.exists() {
-        return Err("no target/bin/listing: run `rt check listing` first".to_string());
+        return Err("no target/bin/listing: run `make target/bin/listing` first".to_string());
     }
     let input = std::env::temp_dir().join("rozimaha-bench.g722");
     let bytes: Vec<u8> = (0..LISTED_BYTES as u32).map(|i| (i.wrapping_mul(2654435761) >> 24) as u8).collect();
