@@ -1,5 +1,5 @@
 -- The byte of a sample a turn.
-use Rattle.std.proofs.Common.{length, get_or, pos, arith, rules, w16, ap, ◌∙◌}
+use Rattle.std.proofs.Common.{length, pos, arith, rules, w16, ap, ◌∙◌}
 use Rattle.std.proofs.lemmas.Bool.{le-ltb}
 use Rattle.std.proofs.lemmas.Int.{to_z-of_z}
 use Rattle.answers.proofs.Filling.{no_turn, turn, last_turn}
@@ -11,8 +11,7 @@ loop-i-init c = no_turn
 
 pub loop-i-preserved : goal.loop-i-preserved
 loop-i-preserved c =
-    let sample = get_or c.args.input.now c.loop-i.i (pos 0) in
-    turn (pos 0) c.loop-i.invariant c.loop-i-test.true (c.byte_of.ensures ∙ ap a_byte (to_z-of_z w16 sample (search rules)))
+    turn (pos 0) c.loop-i.invariant c.loop-i-test.true (c.byte_of.ensures ∙ ap a_byte (to_z-of_z w16 _ (search rules)))
 
 pub returns-clause-out_after : goal.returns-clause-out_after
 returns-clause-out_after c =

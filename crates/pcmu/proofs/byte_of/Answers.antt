@@ -1,7 +1,6 @@
 -- The table's rule gives the exponent, which is at most 7.
 use Rattle.std.specs.Prelude.{leb}
-use Rattle.std.specs.Int.Signed.{non_neg}
-use Rattle.std.proofs.Common.{◌≡◌, List, ℕ, zero, suc, ◌/◌, ◌^◌, ◌<◌, ◌≤◌, ℤ, zero-le, get_or, arith, w16, ap, ◌∙◌}
+use Rattle.std.proofs.Common.{◌≡◌, List, ℕ, zero, suc, ◌/◌, ◌^◌, ◌<◌, ◌≤◌, get_or, arith, w16, ap, ◌∙◌}
 use Rattle.std.proofs.Math.Nat.{le_refl, le-suc, le_trans}
 use Rattle.std.proofs.lemmas.Int.{to_z-of_z}
 use Rattle.samples.proofs.Cond.{cond_le}
@@ -12,9 +11,6 @@ use Rattle.pcmu.proofs.byte_of.Goals as goal
 highest_le : (k n : ℕ) → highest k n ≤ k
 highest_le zero n = le_refl zero
 highest_le (suc k) n = cond_le (leb (2 ^ suc k) n) (le_refl (suc k)) (le_trans (highest_le k n) (le-suc k))
-
-sign_le : (z : ℤ) → sign_bit z ≤ 128
-sign_le z = cond_le (non_neg z) zero-le (le_refl 128)
 
 module _ {table : List ℕ} (e : table ≡ exponents) (m : ℕ) (h : m < 32768) where
   e_is : get_or table (m / 128) 0 ≡ exponent m
@@ -29,7 +25,7 @@ overflow_shr-mantissa c = omega (arith, e_le c.requires c.bias-m.result (omega a
 
 pub overflow_sub-result : goal.overflow_sub-result
 overflow_sub-result c =
-    let small : c.sign_bit.result ≤ 128 = rw c.sign_bit.ensures (sign_le _) in
+    let small : c.sign_bit.result ≤ 128 = grind (arith, cond_le) in
     omega (arith, e_le c.requires c.bias-m.result (omega arith))
 
 pub returns : goal.returns
