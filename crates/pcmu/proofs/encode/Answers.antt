@@ -1,9 +1,8 @@
 -- The byte of a sample a turn.
-use Rattle.std.proofs.Common.{length, pos, arith, rules, w16, ap, ◌∙◌}
+use Rattle.std.proofs.Common.{length, pos, arith}
 use Rattle.std.proofs.lemmas.Bool.{le-ltb}
 use Rattle.std.proofs.lemmas.Int.{to_z-of_z}
 use Rattle.answers.proofs.Filling.{no_turn, turn, last_turn}
-use Rattle.pcmu.specs.Mulaw.{mu_byte}
 use Rattle.pcmu.proofs.encode.Goals as goal
 
 pub loop-i-init : goal.loop-i-init
@@ -11,7 +10,7 @@ loop-i-init c = no_turn
 
 pub loop-i-preserved : goal.loop-i-preserved
 loop-i-preserved c =
-    turn (pos 0) c.loop-i.invariant c.loop-i-test.true (c.byte_of.ensures ∙ ap mu_byte (to_z-of_z w16 _ (search rules)))
+    turn (pos 0) c.loop-i.invariant c.loop-i-test.true (grind (arith, to_z-of_z))
 
 pub returns-clause-out_after : goal.returns-clause-out_after
 returns-clause-out_after c =
