@@ -9,14 +9,11 @@ use Rattle.line.proofs.LineTexts.{line_is, line_long}
 use Rattle.line.proofs.write_line.Goals as goal
 
 whole : (o : List ℕ) (k z : ℕ) (vs : List ℤ) (p : List ℕ) (r : ℕ) → length (line_text k z vs) ≤ length o → r ≡ 3 + length (fields_text vs)
-    → p ≡ sets (set (set (set o 0 k) 1 TAB) 2 z) 3 (fields_text vs) → (r ≡ length (line_text k z vs)) × (p ≡ line_text k z vs ++ drop r o)
+    → p ≡ sets (set (set (set o 0 k) 1 TAB) 2 z) 3 (fields_text vs) → p ≡ line_text k z vs ++ drop r o
 whole o k z vs p r h n e =
-    let long : r ≡ length (line_text k z vs) = omega (arith, n, line_long k z vs) in
-    let at : 0 + length (line_text k z vs) ≡ r = omega (arith, long) in (
-      long,
-      e ∙ ap (sets o 0) (sym (line_is k z vs)) ∙ sets-eq (line_text k z vs) o 0 (omega arith)
-          ∙ ap (λ (i : ℕ). line_text k z vs ++ drop i o) at,
-    )
+    let at : 0 + length (line_text k z vs) ≡ r = omega (arith, n, line_long k z vs) in
+    e ∙ ap (sets o 0) (sym (line_is k z vs)) ∙ sets-eq (line_text k z vs) o 0 (omega arith)
+    ∙ ap (λ (i : ℕ). line_text k z vs ++ drop i o) at
 
 pub bounds-out-0 : goal.bounds-out-0
 bounds-out-0 c = omega (arith, line_long c.args.kind c.args.start c.args.vs.now)
@@ -31,11 +28,9 @@ pub write_fields-requires : goal.write_fields-requires
 write_fields-requires c = simp length-set (omega (arith, line_long c.args.kind c.args.start c.args.vs.now))
 
 pub returns-clause-value : goal.returns-clause-value
-returns-clause-value c =
-    let w = c.write_fields.ensures in
-    (whole c.args.out.now c.args.kind c.args.start c.args.vs.now _ _ c.requires w.value w.out_after).0
+returns-clause-value c = omega (arith, c.write_fields.ensures.value, line_long c.args.kind c.args.start c.args.vs.now)
 
 pub returns-clause-out_after : goal.returns-clause-out_after
 returns-clause-out_after c =
     let w = c.write_fields.ensures in
-    (whole c.args.out.now c.args.kind c.args.start c.args.vs.now _ _ c.requires w.value w.out_after).1
+    whole c.args.out.now c.args.kind c.args.start c.args.vs.now _ _ c.requires w.value w.out_after

@@ -102,7 +102,7 @@ returns-in-NoNumber-clause-out_after c = (faulty c).1
 
 pub overflow_add-result : goal.overflow_add-result
 overflow_add-result c =
-    omega (arith, begins_inside NEWLINE c.args.s.now c.loop-i.p (sym c.has_byte.ensures ∙ c.if-has_byte.true))
+    omega (arith, begins_inside _ c.args.s.now c.loop-i.p (sym c.has_byte.ensures ∙ c.if-has_byte.true))
 
 pub overflow_sub-result : goal.overflow_sub-result
 overflow_sub-result c = omega (arith, c.loop-i.invariant.low)
