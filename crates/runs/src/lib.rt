@@ -102,6 +102,7 @@ fn put(sample: i16, out: &mut [i16], at: usize)
 }
 
 // Stores what is kept of a pair, and answers the next place.
+#[tactic(auto, unfolding(crate::specs::Rates::decode_room, crate::specs::Runs::kept_of))]
 fn put_kept(rate: u32, first: i16, second: i16, out: &mut [i16], at: usize) -> usize
     requires { at + decode_room rate 1 ≤ length out.old }
     ensures value { result ≡ at + decode_room rate 1 }

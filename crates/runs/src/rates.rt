@@ -6,6 +6,7 @@ ghost use Rattle.runs.specs.Rates.{encode_room, decode_room, odd_at, resamples};
 pub(crate) const RESAMPLED: u32 = 8000;
 
 // How many bytes n samples give.
+#[tactic(auto, unfolding(crate::specs::Rates::encode_room))]
 pub fn encode_room(rate: u32, n: usize) -> usize
     ensures { result ≡ encode_room rate n }
 {
@@ -16,6 +17,7 @@ pub fn encode_room(rate: u32, n: usize) -> usize
 }
 
 // How many samples n bytes give.
+#[tactic(auto, unfolding(crate::specs::Rates::decode_room))]
 pub fn decode_room(rate: u32, n: usize) -> usize
     requires { n < 2 ^ 63 }
     ensures { result ≡ decode_room rate n }
@@ -27,6 +29,7 @@ pub fn decode_room(rate: u32, n: usize) -> usize
 }
 
 // Whether n bytes give more samples than there is room for; also where twice n is no usize.
+#[tactic(auto, unfolding(crate::specs::Rates::decode_room))]
 pub fn decode_overfills(rate: u32, n: usize, room: usize) -> bool
     ensures { result ≡ ltb room (decode_room rate n) }
 {
@@ -37,6 +40,7 @@ pub fn decode_overfills(rate: u32, n: usize, room: usize) -> bool
 }
 
 // Whether n samples leave one that has no pair.
+#[tactic(auto, unfolding(crate::specs::Rates::odd_at))]
 pub fn odd_at(rate: u32, n: usize) -> bool
     ensures { result ≡ odd_at rate n }
 {
