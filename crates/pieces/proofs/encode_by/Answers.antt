@@ -28,7 +28,7 @@ loop-i-preserved c =
     let even : length c.loop-i.piece % 2 ≡ 0 = rw c.loop-i.invariant.long c.requires.piece_nonzero.1 in
     let unpacked = ap length c.unpack.ensures ∙ piece_long _ encodes _ even c.least-n.ensures in
     let long : length (c.unpack.new.out ++ drop c.least-n.result c.loop-i.piece) ≡ length c.args.piece.now =
-        simp (length-append, length-drop) (omega (arith, unpacked, c.least-n.ensures, c.loop-i.invariant.long)) in
+    simp (length-append, length-drop) (omega (arith, unpacked, c.least-n.ensures, c.loop-i.invariant.long)) in
     let more = encodes_more _ encodes _ even c.least-n.ensures _ c.unpack.ensures c.encode_run-f.ensures.value c.encode_run-f.ensures.out_after in
     record { long = long; encodes = rw c.encode_room-o.ensures more }
 
