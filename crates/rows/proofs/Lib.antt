@@ -3,3 +3,4 @@ pub mod Pieces
 pub mod Whole
 pub mod Stops
 pub mod Determined
+pub mod Writing
