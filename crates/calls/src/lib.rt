@@ -47,6 +47,7 @@ const FRESH_RATE: u32 = 16000;
 const MARK_ROOM: usize = Encoder::MARK_LENGTH_MOST;
 
 // The number of a G.722 call, from restore's, from the coder's and from the room for the new mark.
+#[tactic(auto, unfolding(crate::specs::G722::call_number))]
 fn call_number(restored: u8, coded: u8, room: usize) -> u8
     ensures { result ≡ call_number restored coded room }
 {
