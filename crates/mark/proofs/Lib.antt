@@ -11,3 +11,4 @@ pub mod Copies
 pub mod Parts
 pub mod Either
 pub mod Determined
+pub mod Restoring

@@ -34,6 +34,7 @@ pub fn write_encoder(session: Encoder, out: &mut [u8]) -> EncoderAnswer
 }
 
 // The encoder that the line says. Of `session` nothing is kept, unless the line is refused.
+#[tactic(auto, using(crate::proofs::Restoring::encoder_refused, crate::proofs::Restoring::encoder_done))]
 pub fn restore_encoder(session: Encoder, line: &[u8]) -> EncoderAnswer
     ensures answer { result ≡ encoder_restore_answer session line.now }
 {
@@ -84,6 +85,7 @@ pub fn write_decoder(session: Decoder, out: &mut [u8]) -> DecoderAnswer
 }
 
 // The decoder that the line says. Of `session` nothing is kept, unless the line is refused.
+#[tactic(auto, using(crate::proofs::Restoring::decoder_refused, crate::proofs::Restoring::decoder_done))]
 pub fn restore_decoder(session: Decoder, line: &[u8]) -> DecoderAnswer
     ensures answer { result ≡ decoder_restore_answer session line.now }
 {
