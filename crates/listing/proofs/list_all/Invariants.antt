@@ -1,5 +1,4 @@
 use Rattle.rows.specs.Listing.{Ready}
-
 use Rattle.listing.proofs.list_all.Given as goal
 
 abbrev pub invariant-loop-turn : goal.invariant-loop-turn
