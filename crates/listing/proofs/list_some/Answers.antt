@@ -1,5 +1,5 @@
 -- The bytes that fit are taken, and they are no more than came.
-use Rattle.std.proofs.Common.{◌≡◌, ◌≤◌, arith, length, take, length-take}
+use Rattle.std.proofs.Common.{◌≡◌, arith, length, take, length-take}
 use Rattle.rows.specs.Listing.{fitting_bytes}
 use Rattle.rows.proofs.Stops.{ready_fitting}
 use Rattle.listing.proofs.list_some.Goals as goal

@@ -1,4 +1,4 @@
-use Rattle.std.proofs.Common.{length, ◌-◌, ◌≤◌, ◌<◌, ◌≡◌, ℕ, ◌+◌, ◌*◌}
+use Rattle.std.proofs.Common.{length, ◌-◌, ◌≤◌}
 use Rattle.replay.proofs.words.place_of.Given as goal
 
 abbrev pub invariant-loop-end : goal.invariant-loop-end

@@ -1,4 +1,4 @@
-use Rattle.std.proofs.Common.{◌≤◌, ◌<◌, length, ◌≡◌, ℕ, ◌+◌, ◌-◌, ◌*◌}
+use Rattle.std.proofs.Common.{◌≤◌, length}
 use Rattle.replay.proofs.words.word_start.Given as goal
 
 abbrev pub invariant-loop-left : goal.invariant-loop-left
