@@ -7,7 +7,8 @@ usage: python3 tools/respell.py      at the top, once, after the kit's own port 
 
 A name is renamed if specs/ or proofs/ declare it. Names of src/, of types and of the library stay, and so do the names that Rattle
 makes for the steps of a function, which a Proof.antt only repeats. A dash between the names of two functions stays. Where a lemma would
-get its function's name it ends in _lem. It reads text, so a second run on what it wrote changes nothing.
+get its function's name it ends in _lem. It fits the tree that the kit's port script leaves, and no later one, in which it would rename
+what Rattle names (overflow_mul-result): there it stops.
 """
 
 import glob
@@ -79,6 +80,8 @@ def turn(text, names):
 
 
 def main():
+    if files("crates/*/proofs/**/Answers.antt"):
+        raise SystemExit("respell: this tree is past the port; nothing was changed")
     names = {n: snake(n) for n in declared()}
     names = {old: new for old, new in names.items() if old != new}
     kept = set(names.values())
