@@ -1,4 +1,4 @@
--- The bound of the first pole coefficient, a1AndA2Most less the second, which UPPOL1 keeps.
+-- The bound of the first pole coefficient, a1_and_a2_most less the second, which UPPOL1 keeps.
 use lib.IntN.{ℤ, pos, neg_ℤ, ◌-ℤ◌}
 use lib.Signed.{◌≤ℤ◌}
 use mathlib.Core.Path.{◌≡◌, sym, subst}

@@ -41,14 +41,14 @@ numbers k =
     ∷ k.d1 ∷ k.d2 ∷ k.d3 ∷ k.d4 ∷ k.d5 ∷ k.d6
     ∷ k.b1 ∷ k.b2 ∷ k.b3 ∷ k.b4 ∷ k.b5 ∷ k.b6 ∷ k.nb ∷ k.det ∷ []
 
--- nbMost is the greatest nb
+-- nb_most is the greatest nb
 unfoldable pub band_in_bounds : Band → ℤ → Bool
-band_in_bounds k nbMost =
+band_in_bounds k nb_most =
     let rest = pos a1_and_a2_most -ℤ k.a2 in
     all_words (numbers k)
     && (between (minus a2_most) (pos a2_most) k.a2
     && between (neg_ℤ rest) rest k.a1
-    && between (pos 0) nbMost k.nb
+    && between (pos 0) nb_most k.nb
     && between (pos 0) (pos det_most) k.det)
 
 unfoldable pub filters_in_bounds : Filters → Bool

@@ -1,5 +1,5 @@
 -- Order, size and ranges of whole numbers, and what a clamp does.
--- `le_out`, `le_in`, `add-pn`, `neg-p` and `neg-n` hand linear facts to `omega`.
+-- `le_out`, `le_in`, `add_pn`, `neg_p` and `neg_n` hand linear facts to `omega`.
 use Prim.Native.Nat.{ℕ, zero, suc, ◌+◌, ◌-◌, ◌*◌, ◌/◌, ◌^◌, ◌≤◌, ◌<◌, max}
 use native.Mathlib.Nat.{le_trans, lt_of_le_of_lt, le-max_left, le-max_right, mul-le-mul}
 use native.Mathlib.Omega.{arith}
