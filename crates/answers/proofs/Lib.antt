@@ -1,5 +1,4 @@
 pub mod Answered
 pub mod Filling
 pub mod Coding
-pub mod ByNumber
 pub mod Determined

@@ -1,19 +1,13 @@
--- What a call answers, and what it leaves in a lent buffer (docs/RULES.md, "Answers" and "Room").
-use Rattle.std.specs.Prelude.{cond, List, map, ℕ, eqb, ltb, length}
+-- What a call on lent buffers answers, and what it leaves in the output (docs/RULES.md, "Answers" and "Room").
+use Rattle.std.specs.Prelude.{cond, List, map, ℕ, eqb, ltb, length, Result}
 use Rattle.std.proofs.lemmas.List.Edits.{sets}
 use Rattle.answers.specs.Numbers.{done, no_room}
-use Rattle.answers.specs.declared.Answer.{Answer}
+use Rattle.answers.specs.declared.Refusal.{Refusal}
+use Rattle.answers.specs.Outcomes.{outcome}
 
 -- done: the items stand first and the rest is kept; refused: all is as it was
 abbrev pub leaves : {A : Type 0} → ℕ → List A → List A → List A
 leaves number items out = cond (eqb number done) (sets out 0 items) out
-
-abbrev pub reply : ℕ → ℕ → Answer
-reply number count = record { number = number; count = count }
-
--- the answer with this number of a call that writes n items if it is done
-abbrev pub answer : ℕ → ℕ → Answer
-answer number n = reply number (cond (eqb number done) n 0)
 
 -- the number of a call that needs room for n items and refuses for nothing else
 abbrev pub room_number : ℕ → ℕ → ℕ
@@ -21,8 +15,8 @@ room_number n room = cond (ltb room n) no_room done
 
 -- such a call that writes f of each item of its input
 module _ {A B : Type 0} where
-  abbrev pub map_answer : List A → List B → Answer
-  map_answer input out = answer (room_number (length input) (length out)) (length input)
+  abbrev pub map_outcome : List A → List B → Result ℕ Refusal
+  map_outcome input out = outcome (room_number (length input) (length out)) (length input)
 
   abbrev pub map_output : (A → B) → List A → List B → List B
   map_output f input out = leaves (room_number (length input) (length out)) (map f input) out

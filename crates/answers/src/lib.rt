@@ -1,55 +1,53 @@
-// What a call answers: a number, and how many items it wrote. docs/RULES.md, "Answers".
+// What a call answers: how many items it wrote, or why it refused, and the session that it hands back. docs/RULES.md, "Answers".
 #![tactic(auto)]
 
 ghost use Rattle.std.specs.Prelude.{◌≡◌};
-ghost use Rattle.answers.specs.Numbers.{done};
-ghost use Rattle.answers.specs.Lent.{reply};
+ghost use Rattle.answers.specs.Outcomes.{number_of, count_of};
 
-pub const DONE: u8 = 0;
+// Why a call refused. Each has its number in the table of docs/RULES.md.
+#[derive(Clone, Copy, Debug, PartialEq, Eq)]
+pub enum Refusal {
+    // begin: the start is neither 0 nor 1
+    BadStart = 1,
+    // a session given is outside the bounds
+    OutOfBounds = 2,
+    // an odd count of samples, or of the bytes that stand for samples
+    OddCount = 3,
+    // the output has less room than the result needs
+    NoRoom = 4,
+    // the position would pass 4294967295
+    PositionPastEnd = 5,
+    // restore: the mark is malformed
+    Malformed = 6,
+    // restore: a well-formed mark of the other kind
+    OtherKind = 7,
+    // restore: a number in the mark is outside its bounds
+    NumberOutOfBounds = 8,
+}
 
-// begin: the start is neither 0 nor 1
-pub const BAD_START: u8 = 1;
+// How many items a call wrote, or why it refused.
+pub type Outcome = Result<usize, Refusal>;
 
-// a session given is outside the bounds
-pub const OUT_OF_BOUNDS: u8 = 2;
-
-// an odd count of samples, or of the bytes that stand for samples
-pub const ODD_COUNT: u8 = 3;
-
-// the output has less room than the result needs
-pub const NO_ROOM: u8 = 4;
-
-// the position would pass 4294967295
-pub const POSITION_PAST_END: u8 = 5;
-
-// restore: the mark is malformed
-pub const MALFORMED: u8 = 6;
-
-// restore: a well-formed mark of the other kind
-pub const OTHER_KIND: u8 = 7;
-
-// restore: a number in the mark is outside its bounds
-pub const NUMBER_OUT_OF_BOUNDS: u8 = 8;
-
-// The answer of a call that has no session.
+// What a call on a session came to, and the session that it hands back.
 #[derive(Clone, Copy)]
-pub struct Answer {
-    pub number: u8,
-    pub count: usize,
+pub struct Answer<S> {
+    pub outcome: Outcome,
+    pub session: S,
 }
 
-// A refusal wrote nothing.
-pub fn refused(number: u8) -> Answer
-    ensures { result ≡ reply number 0 }
+// The number that docs/RULES.md gives an outcome: 0 where the call is done.
+pub fn number(outcome: Outcome) -> u8
+    ensures { result ≡ number_of outcome }
 {
-    Answer { number, count: 0 }
-}
-
-pub fn done(count: usize) -> Answer
-    ensures { result ≡ reply done count }
-{
-    Answer {
-        number: DONE,
-        count,
+    match outcome {
+        Ok(_) => 0,
+        Err(refusal) => refusal as u8,
     }
+}
+
+// How many items a call wrote: a refusal wrote nothing.
+pub fn count(outcome: Outcome) -> usize
+    ensures { result ≡ count_of outcome }
+{
+    outcome.unwrap_or(0)
 }

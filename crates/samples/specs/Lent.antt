@@ -1,8 +1,9 @@
 -- What a call on samples as bytes answers, and what it leaves in a lent buffer (docs/RULES.md, "Samples as bytes" and "Room").
-use Rattle.std.specs.Prelude.{cond, List, map, ℕ, ◌*◌, ◌/◌, ◌%◌, eqb, ℤ, length}
-use Rattle.answers.specs.declared.Answer.{Answer}
+use Rattle.std.specs.Prelude.{cond, List, map, ℕ, ◌*◌, ◌/◌, ◌%◌, eqb, ℤ, length, Result}
+use Rattle.answers.specs.declared.Refusal.{Refusal}
 use Rattle.answers.specs.Numbers.{odd_count}
-use Rattle.answers.specs.Lent.{answer, leaves, room_number}
+use Rattle.answers.specs.Outcomes.{outcome}
+use Rattle.answers.specs.Lent.{leaves, room_number}
 use Rattle.samples.specs.Bytes.{samples, bytes}
 
 -- the number of a call that takes n bytes of samples and writes a byte for each sample: 3 for an odd count, then 4 for too little room
@@ -13,8 +14,8 @@ encoding_number n room = cond (eqb (n % 2) 0) (room_number (n / 2) room) odd_cou
 abbrev pub from_bytes_number : List ℕ → List ℕ → ℕ
 from_bytes_number input out = encoding_number (length input) (length out)
 
-abbrev pub from_bytes_answer : List ℕ → List ℕ → Answer
-from_bytes_answer input out = answer (from_bytes_number input out) (length input / 2)
+abbrev pub from_bytes_outcome : List ℕ → List ℕ → Result ℕ Refusal
+from_bytes_outcome input out = outcome (from_bytes_number input out) (length input / 2)
 
 abbrev pub from_bytes_output : (ℤ → ℕ) → List ℕ → List ℕ → List ℕ
 from_bytes_output f input out = leaves (from_bytes_number input out) (map f (samples input)) out
@@ -23,8 +24,8 @@ from_bytes_output f input out = leaves (from_bytes_number input out) (map f (sam
 abbrev pub to_bytes_number : List ℕ → List ℕ → ℕ
 to_bytes_number input out = room_number (2 * length input) (length out)
 
-abbrev pub to_bytes_answer : List ℕ → List ℕ → Answer
-to_bytes_answer input out = answer (to_bytes_number input out) (2 * length input)
+abbrev pub to_bytes_outcome : List ℕ → List ℕ → Result ℕ Refusal
+to_bytes_outcome input out = outcome (to_bytes_number input out) (2 * length input)
 
 abbrev pub to_bytes_output : (ℕ → ℤ) → List ℕ → List ℕ → List ℕ
 to_bytes_output f input out = leaves (to_bytes_number input out) (bytes (map f input)) out

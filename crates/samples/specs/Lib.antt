@@ -1,3 +1,2 @@
-pub mod Sign
 pub mod Bytes
 pub mod Lent
