@@ -1,11 +1,13 @@
--- Tables by their rules: an entry read at its place, two rules that agree as far as their tables do, and bytes looked up.
-use mathlib.Core.List.{List, [], ◌∷◌, map}
-use mathlib.Core.Path.{◌≡◌, refl, sym, ap, ap₂, ◌∙◌}
+-- Tables by their rules: an entry read at its place, two rules that agree as far as their tables do, and a stored value.
+use mathlib.Core.List.{List}
+use mathlib.Core.Path.{◌≡◌, sym, ap, ◌∙◌}
 use Prim.Native.Nat.{ℕ, zero, suc, ◌+◌, ◌<◌}
 use native.Mathlib.Nat.{add-zero, zero-add, add-suc, suc-add, le_of_suc-le-suc, not-suc-le-zero}
-use lib.IntN.{ℤ, pos}
 use lib.ListN.{get_or}
-use Rattle.lookup.specs.Table.{from, value_in}
+use lib.IntN.{ℤ, pos}
+use mir.Syntax.{w16}
+use mir.Val.{to_z, of_z}
+use Rattle.lookup.specs.Table.{from}
 
 module _ {A : Type 0} where
   from_at : (f : ℕ → A) (d : A) (i n k : ℕ) → k < n → get_or (from f i n) k d ≡ f (i + k)
@@ -22,8 +24,7 @@ module _ {A : Type 0} where
   pub agree : (f g : ℕ → A) (n : ℕ) → from f 0 n ≡ from g 0 n → (k : ℕ) → k < n → f k ≡ g k
   agree f g n e k h = sym (from_0 f (f 0) n k h) ∙ entry g (f 0) n e k h
 
--- each byte's value in the table of a rule is the rule's
-pub looked_up : (f : ℕ → ℤ) {values : List ℤ} → values ≡ from f 0 256 → (bs : List ℕ) → ((k : ℕ) → get_or bs k 0 < 256)
-    → map (value_in values) bs ≡ map f bs
-looked_up f e [] h = refl
-looked_up f e (b ∷ bs) h = ap₂ (λ (z : ℤ) (zs : List ℤ). z ∷ zs) (entry f (pos 0) 256 e b (h 0)) (looked_up f e bs (λ k. h (suc k)))
+-- a value of a stored table, read at its place, is the rule's, and fits
+pub stored : (f : ℕ → ℤ) {values : List ℤ} → values ≡ from f 0 256 → from (λ b. to_z w16 (of_z w16 (f b))) 0 256 ≡ from f 0 256
+    → (b : ℕ) → b < 256 → to_z w16 (of_z w16 (get_or values b (pos 0))) ≡ f b
+stored f e fits b h = ap (λ z. to_z w16 (of_z w16 z)) (entry f (pos 0) 256 e b h) ∙ agree (λ b. to_z w16 (of_z w16 (f b))) f 256 fits b h

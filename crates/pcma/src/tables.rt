@@ -1,6 +1,4 @@
 // The tables of A-law.
-ghost use Rattle.std.specs.Prelude.{◌≡◌};
-ghost use Rattle.pcma.specs.Alaw.{a_values};
 
 // The value of each byte.
 pub const VALUES: [i16; 256] = [
@@ -23,9 +21,3 @@ pub const VALUES: [i16; 256] = [
     1952, 1632, 1568, 1760, 1696, 688, 656, 752, 720, 560, 528, 624, 592, 944, 912, 1008, 976, 816,
     784, 880, 848,
 ];
-
-pub(crate) fn decoding_table() -> [i16; 256]
-    ensures { result ≡ a_values }
-{
-    VALUES
-}

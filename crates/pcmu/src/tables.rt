@@ -1,6 +1,4 @@
 // The tables of mu-law.
-ghost use Rattle.std.specs.Prelude.{◌≡◌};
-ghost use Rattle.pcmu.specs.Mulaw.{mu_values, exponents};
 
 // The value of each byte.
 pub const VALUES: [i16; 256] = [
@@ -23,7 +21,7 @@ pub const VALUES: [i16; 256] = [
     196, 180, 164, 148, 132, 120, 112, 104, 96, 88, 80, 72, 64, 56, 48, 40, 32, 24, 16, 8, 0,
 ];
 
-// The place of the highest one bit of each number below 256; 0 for 0.
+// The place of the highest one bit of each number below 256; 0 for 0. The original's table, entry by entry.
 pub const EXPONENTS: [u8; 256] = [
     0, 0, 1, 1, 2, 2, 2, 2, 3, 3, 3, 3, 3, 3, 3, 3, 4, 4, 4, 4, 4, 4, 4, 4, 4, 4, 4, 4, 4, 4, 4, 4,
     5, 5, 5, 5, 5, 5, 5, 5, 5, 5, 5, 5, 5, 5, 5, 5, 5, 5, 5, 5, 5, 5, 5, 5, 5, 5, 5, 5, 5, 5, 5, 5,
@@ -34,15 +32,3 @@ pub const EXPONENTS: [u8; 256] = [
     7, 7, 7, 7, 7, 7, 7, 7, 7, 7, 7, 7, 7, 7, 7, 7, 7, 7, 7, 7, 7, 7, 7, 7, 7, 7, 7, 7, 7, 7, 7, 7,
     7, 7, 7, 7, 7, 7, 7, 7, 7, 7, 7, 7, 7, 7, 7, 7, 7, 7, 7, 7, 7, 7, 7, 7, 7, 7, 7, 7, 7, 7, 7, 7,
 ];
-
-pub(crate) fn decoding_table() -> [i16; 256]
-    ensures { result ≡ mu_values }
-{
-    VALUES
-}
-
-pub(crate) fn exponent_table() -> [u8; 256]
-    ensures { result ≡ exponents }
-{
-    EXPONENTS
-}
