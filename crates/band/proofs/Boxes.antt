@@ -1,7 +1,7 @@
 -- The Bool of a range, and of a list of numbers, beside what is known of each number.
 use Prim.Native.Nat.{ℕ, zero, suc, ◌<◌, ◌^◌}
 use mathlib.Core.Bool.{Bool, true, false, ◌&&◌, false≢true}
-use mathlib.Core.List.{List, [], ◌∷◌, ◌++◌, map, map-id}
+use mathlib.Core.List.{List, [], ◌∷◌, ◌++◌}
 use denote.Array.{each}
 use denote.Shadow.{shadow}
 use denote.Signed.{SInt}
@@ -78,14 +78,11 @@ pub words_join : (xs ys : List ℤ) → all_words xs ≡ true → all_words ys �
 words_join [] ys e f = f
 words_join (z ∷ zs) ys e f = more_words z (zs ++ ys) (head_word z zs e) (words_join zs ys (tail_words z zs e) f)
 
--- ---- what the relation of an array of `i16` says of its numbers, and of an array that is a field
+-- ---- what the relation of an array of `i16` says of its numbers
 pub array_words : (xs : List ℤ) (us : List Val) → shadow (each ℤ (SInt w16).own_val xs us) → all_words xs ≡ true
 array_words [] us p = no_words
 array_words (x ∷ xs) [] p = absurd p
 array_words (x ∷ xs) (u ∷ us) p = more_words x xs (in16_of x (record { sfits = p.0.1 })) (array_words xs us p.1)
-
-pub field_words : (xs : List ℤ) (us : List Val) → shadow (each ℤ (SInt w16).own_val (map (λ (v : ℤ). v) xs) us) → all_words xs ≡ true
-field_words xs us p = array_words xs us (subst (λ (ys : List ℤ). shadow (each ℤ (SInt w16).own_val ys us)) (map-id xs) p)
 
 -- ---- a band whose fields are each of 16 bits, and fit
 pub band_in : (k : Band)

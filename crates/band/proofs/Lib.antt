@@ -4,3 +4,4 @@ pub mod Scale
 pub mod Poles
 pub mod Kept
 pub mod Codes
+pub mod Totals

@@ -1,22 +1,20 @@
 // Block 4: the predictor.
-ghost use Rattle.std.specs.Prelude.{[], ◌∷◌, ◌≡◌, pos, ◌+ℤ◌};
+ghost use Rattle.std.specs.Prelude.{◌≡◌, pos, ◌+ℤ◌};
 ghost use Rattle.fixed.specs.Number.{minus, In, Is, sat, signed_by, scaled_by};
 ghost use Rattle.band.specs.Bounds.{a2_most};
 ghost use Rattle.band.specs.Block4.{UPPOL2, UPPOL1, gain, FILTEP, FILTEZ, BLOCK4};
 
 use crate::Band;
 
+// Here and in uppol1 the parameters are those that the standard's block names, and no band.
 fn uppol2(a1: i16, a2: i16, p0: i16, p1: i16, p2: i16) -> i16
     ensures { Is (minus a2_most) (pos a2_most) (UPPOL2 a1 a2 p0 p1 p2) result }
 {
     let wd1 = fixed::saturate(a1 as i32 * 4);
     let wd2 = fixed::saturate(-fixed::by_signs(p0, p1, wd1 as i32));
     let wd3 = fixed::by_signs(p0, p2, 128);
-    fixed::clamp(
-        (wd2 as i32 >> 7) + wd3 + fixed::scaled(a2, 32512),
-        -Band::A2_MOST,
-        Band::A2_MOST,
-    ) as i16
+    let leak = fixed::scaled(a2, 32512);
+    ((wd2 as i32 >> 7) + wd3 + leak).clamp(-Band::A2_MOST, Band::A2_MOST) as i16
 }
 
 fn uppol1(a1: i16, ap2: i16, p0: i16, p1: i16) -> i16
@@ -27,20 +25,14 @@ fn uppol1(a1: i16, ap2: i16, p0: i16, p1: i16) -> i16
     let wd2 = fixed::scaled(a1, 32640);
     let wd3 = fixed::saturate(wd1 + wd2) as i32;
     let most = fixed::saturate(Band::A1_AND_A2_MOST - ap2 as i32) as i32;
-    fixed::clamp(wd3, -most, most) as i16
+    wd3.clamp(-most, most) as i16
 }
 
 // UPZERO's gain under the sign of d: taken once, for all six zeros.
 fn signed_gain(d: i16) -> i32
     ensures { Is (minus 128) (pos 128) (signed_by d (gain d)) result }
 {
-    if d < 0 {
-        return -128;
-    }
-    if d > 0 {
-        return 128;
-    }
-    0
+    128 * d.signum() as i32
 }
 
 // UPZERO, for one of the six zeros: the gain under the sign of its own difference too.
@@ -57,41 +49,20 @@ fn filtep(a1: i16, a2: i16, r1: i16, r2: i16) -> i16
     fixed::saturate(fixed::tap(a1, r1) + fixed::tap(a2, r2))
 }
 
-fn filtez(
-    b1: i16,
-    b2: i16,
-    b3: i16,
-    b4: i16,
-    b5: i16,
-    b6: i16,
-    d1: i16,
-    d2: i16,
-    d3: i16,
-    d4: i16,
-    d5: i16,
-    d6: i16,
-) -> i16
-    ensures { result ≡ FILTEZ (b1 ∷ b2 ∷ b3 ∷ b4 ∷ b5 ∷ b6 ∷ []) (d1 ∷ d2 ∷ d3 ∷ d4 ∷ d5 ∷ d6 ∷ []) }
+fn filtez(b: [i16; 6], d: [i16; 6]) -> i16
+    ensures { result ≡ FILTEZ b d }
 {
-    let t6 = fixed::tap(b6, d6);
-    let t5 = fixed::tap(b5, d5);
-    let t4 = fixed::tap(b4, d4);
-    let t3 = fixed::tap(b3, d3);
-    let t2 = fixed::tap(b2, d2);
-    let t1 = fixed::tap(b1, d1);
-    fixed::saturate(t1 + (t2 + (t3 + (t4 + (t5 + t6)))))
+    let mut sum = 0;
+    for (bi, di) in b.iter().zip(&d) {
+        sum += fixed::tap(*bi, *di);
+    }
+    fixed::saturate(sum)
 }
 
-// The band after the difference d, with the scale factor of block 3.
+// The band after the difference d, with the scale factor of block 3. Longer than other functions: each of a band's numbers has a line.
 pub(crate) fn block4(d: i16, nb: i16, det: i16, band: Band) -> Band
     ensures { result ≡ BLOCK4 band d nb det }
 {
-    let d1 = band.d1;
-    let d2 = band.d2;
-    let d3 = band.d3;
-    let d4 = band.d4;
-    let d5 = band.d5;
-    let d6 = band.d6;
     // RECONS
     let r0 = fixed::plus(band.s, d);
     // PARREC
@@ -102,16 +73,19 @@ pub(crate) fn block4(d: i16, nb: i16, det: i16, band: Band) -> Band
     let a1 = uppol1(band.a1, a2, p0, band.p1);
     // UPZERO
     let gain = signed_gain(d);
-    let b1 = upzero(gain, d1, band.b1);
-    let b2 = upzero(gain, d2, band.b2);
-    let b3 = upzero(gain, d3, band.b3);
-    let b4 = upzero(gain, d4, band.b4);
-    let b5 = upzero(gain, d5, band.b5);
-    let b6 = upzero(gain, d6, band.b6);
+    let b1 = upzero(gain, band.d1, band.b1);
+    let b2 = upzero(gain, band.d2, band.b2);
+    let b3 = upzero(gain, band.d3, band.b3);
+    let b4 = upzero(gain, band.d4, band.b4);
+    let b5 = upzero(gain, band.d5, band.b5);
+    let b6 = upzero(gain, band.d6, band.b6);
     // FILTEP
     let sp = filtep(a1, a2, r0, band.r1);
     // FILTEZ
-    let sz = filtez(b1, b2, b3, b4, b5, b6, d, d1, d2, d3, d4, d5);
+    let sz = filtez(
+        [b1, b2, b3, b4, b5, b6],
+        [d, band.d1, band.d2, band.d3, band.d4, band.d5],
+    );
     // PREDIC
     let s = fixed::plus(sp, sz);
     // DELAYA
@@ -126,11 +100,11 @@ pub(crate) fn block4(d: i16, nb: i16, det: i16, band: Band) -> Band
         p1: p0,
         p2: band.p1,
         d1: d,
-        d2: d1,
-        d3: d2,
-        d4: d3,
-        d5: d4,
-        d6: d5,
+        d2: band.d1,
+        d3: band.d2,
+        d4: band.d3,
+        d5: band.d4,
+        d6: band.d5,
         b1,
         b2,
         b3,

@@ -11,8 +11,8 @@ ghost use Rattle.std.specs.Prelude.{◌≡◌};
 ghost use Rattle.band.specs.Fresh.{fresh_band, fresh_filters};
 ghost use Rattle.band.specs.Bounds.{between, band_in_bounds, filters_in_bounds};
 
-// One band's predictor: the numbers of the standard's block 4, and of 3L or 3H.
-#[derive(Clone, Copy)]
+// One band's predictor: the numbers of the standard's block 4, and of 3L or 3H. Each is a field: the bounds and a mark line name them one by one.
+#[derive(Clone, Copy, Default)]
 pub struct Band {
     pub s: i16,
     pub sp: i16,
@@ -50,7 +50,7 @@ pub struct Filters {
 fn within(v: i32, lo: i32, hi: i32) -> bool
     ensures { result ≡ between lo hi v }
 {
-    (lo <= v) & (v <= hi)
+    (lo..=hi).contains(&v)
 }
 
 impl Band {
@@ -69,33 +69,12 @@ impl Band {
         ensures { result ≡ fresh_band det }
     {
         Self {
-            s: 0,
-            sp: 0,
-            sz: 0,
-            r1: 0,
-            r2: 0,
-            a1: 0,
-            a2: 0,
-            p1: 0,
-            p2: 0,
-            d1: 0,
-            d2: 0,
-            d3: 0,
-            d4: 0,
-            d5: 0,
-            d6: 0,
-            b1: 0,
-            b2: 0,
-            b3: 0,
-            b4: 0,
-            b5: 0,
-            b6: 0,
-            nb: 0,
             det,
+            ..Self::default()
         }
     }
 
-    // Every number is one of 16 bits by its type; `most` is the greatest nb.
+    // Every number is one of 16 bits by its type; `most` is the greatest nb. `&` here and in `Filters`: one case for the proof, where `&&` has several.
     pub fn in_bounds(self, most: i32) -> bool
         ensures { result ≡ band_in_bounds self most }
     {

@@ -1,5 +1,5 @@
 -- Numbers of 16 bits beside the definition's. `H m z`: m, what is passed or stored as an `i16`, is z.
-use Prim.Native.Nat.{ℕ, ◌<◌, ◌≤◌, ◌^◌}
+use Prim.Native.Nat.{ℕ, ◌<◌, ◌^◌}
 use mathlib.Core.Bool.{Bool, cond}
 use mathlib.Core.List.{List}
 use mathlib.Core.Path.{◌≡◌, ◌∙◌, refl, sym, subst}
@@ -11,7 +11,7 @@ use mir.Facts.{to_z-of_z}
 use mir.Syntax.{w16, w32}
 use mir.Val.{SFits, to_z, of_z}
 use Rattle.fixed.specs.Number.{minus, In, In16, Is, same_sign, scaled_by, signed_by}
-use Rattle.fixed.proofs.Wide.{E, each_in, all_le, fits16_of, in_fits, in16_of, narrow_fits, ok, rd, read, table, table_n, var}
+use Rattle.fixed.proofs.Wide.{E, each_in, fits16_of, in16_of, narrow_fits, rd, read, table, var}
 
 pub record H (m z : ℤ) : Type 0 where
   pub is : m ≡ z
@@ -93,13 +93,3 @@ module _ (ys : List ℤ) where
   entry16 t e i =
       let p = read_of e {i = i} refl in
       record { is = p; fits = subst (SFits w16) (sym p) (fits16_of (table (minus 32768) (pos 32767) ys t i)) }
-
-  pub entry32 : (lo hi : ℤ) → T (each_in lo hi ys) → T (ok lo hi) → {xs : List ℤ} → xs ≡ ys → {i j : ℕ} → i ≡ j
-      → E lo hi (get_or xs i (pos 0)) (get_or ys j (pos 0))
-  entry32 lo hi t u e {i} {j} g =
-      let p = read_of e g in
-      let r = table lo hi ys t j in
-      record { is = p; range = r; fits = subst (SFits w32) (sym p) (in_fits r u) }
-
-pub entry_most : (hi : ℕ) (ys : List ℕ) → T (all_le hi ys) → {xs : List ℕ} → xs ≡ ys → (i : ℕ) → get_or xs i 0 ≤ hi
-entry_most hi ys t e i = subst (λ (l : List ℕ). get_or l i 0 ≤ hi) (sym e) (table_n hi ys t i)

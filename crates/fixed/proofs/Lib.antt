@@ -2,4 +2,3 @@ pub mod Signed
 pub mod Wide
 pub mod Half
 pub mod Signs
-pub mod Fits

@@ -10,12 +10,13 @@ use lib.Dec.{T, leb, ltb, leb→le}
 use lib.Ieee.Fits.{and_l, and_r}
 use lib.IntN.{ℤ, pos, negsuc, neg_ℤ, ◌+ℤ◌, ◌-ℤ◌, ◌*ℤ◌, +ℤ_idl}
 use lib.ListN.{get_or}
-use lib.Signed.{mag, lt_z, le_z, shr_z, ◌≤ℤ◌, ≤ℤ_refl}
-use mir.Facts.{to_z-of_z, sfits_widen}
+use lib.Signed.{mag, le_z, shr_z, ◌≤ℤ◌, ≤ℤ_refl}
+use mir.Facts.{to_z-of_z}
 use mir.Syntax.{w16, w32}
 use mir.Val.{SFits, to_z, of_z}
+use Rattle.std.proofs.lemmas.Int.{ints}
 use Rattle.fixed.specs.Number.{minus, In, In16, Is}
-use Rattle.fixed.proofs.Signed.{le_in, sz_in, in_add, in_neg, in_shr, in_mul, top, within}
+use Rattle.fixed.proofs.Signed.{sz_in, in_add, in_neg, in_shr, in_mul, top, within}
 
 -- both bounds are within i32
 abbrev pub ok : ℤ → ℤ → Bool
@@ -47,8 +48,8 @@ pub lit : (z : ℤ) → T (ok z z) → E z z z z
 lit z t = make refl (record { low = ≤ℤ_refl z; high = ≤ℤ_refl z }) t
 
 sfits_in : (z : ℤ) → mag z < 2 ^ 31 → In (minus 2147483648) (pos 2147483647) z
-sfits_in (pos n) h = record { low = record { le = tt }; high = le_in (pos n) (pos 2147483647) (omega arith) }
-sfits_in (negsuc n) h = record { low = le_in (minus 2147483648) (negsuc n) (omega arith); high = record { le = tt } }
+sfits_in (pos n) h = record { low = record { le = tt }; high = omega (arith, ints) }
+sfits_in (negsuc n) h = record { low = omega (arith, ints); high = record { le = tt } }
 
 pub any : {z : ℤ} → SFits w32 z → E (minus 2147483648) (pos 2147483647) z z
 any {z} f = make refl (sfits_in z f.sfits) tt
@@ -92,10 +93,6 @@ module _ {a b m x : ℤ} (e : E a b m x) where
     pub at2 {ℓ} : {A : Type ℓ} (f : ℤ → ℤ → A) → f (rd m) (rd n) ≡ f x y
     at2 f = λ i. f (read e i) (read g i)
 
-    -- what a test of two numbers tells
-    pub tested : {t : Bool} → lt_z (rd m) (rd n) ≡ t → lt_z x y ≡ t
-    tested h = sym (at2 lt_z) ∙ h
-
     -- what a clamp requires of its bounds
     pub le_asks : x ≤ℤ y → rd m ≤ℤ rd n
     le_asks h = rw (read e, read g) h
@@ -111,25 +108,19 @@ call a e t = make (a.is ∙ e) (subst (In _ _) (a.is ∙ e) a.range) t
 pub asks : {a b m x : ℤ} → E a b m x → (c d : ℤ) → T (le_z c a) → T (le_z b d) → In c d (rd m)
 asks e c d s t = subst (In c d) (sym (read e)) (within c d e.range s t)
 
--- ---- the answer, and a literal that is one
+-- ---- the answer
 pub gives : {lo hi m z : ℤ} → E lo hi m z → Is lo hi z (rd m)
 gives e = record { is = read e; range = subst (In _ _) (sym (read e)) e.range }
 
-pub gives_lit : {lo hi v : ℤ} (r : ℤ) → r ≡ v → T (le_z lo r) → T (le_z r hi) → Is lo hi v r
-gives_lit r e s t = record { is = e; range = record { low = record { le = s }; high = record { le = t } } }
-
 -- ---- casts
 pub in16_of : (z : ℤ) → SFits w16 z → In16 z
-in16_of (pos n) h = record { low = record { le = tt }; high = le_in (pos n) (pos 32767) (omega (arith, h.sfits)) }
-in16_of (negsuc n) h = record { low = le_in (minus 32768) (negsuc n) (omega (arith, h.sfits)); high = record { le = tt } }
+in16_of (pos n) h = record { low = record { le = tt }; high = omega (arith, ints, h.sfits) }
+in16_of (negsuc n) h = record { low = omega (arith, ints, h.sfits); high = record { le = tt } }
 
 pub fits16_of : {z : ℤ} → In16 z → SFits w16 z
 fits16_of {z} i = record { sfits = (sz_in 15 i tt).sz }
 
 -- `x as i32` of an `i16`
-pub widen_fits : {z : ℤ} → SFits w16 z → SFits w32 (to_z w16 (of_z w16 z))
-widen_fits f = subst (SFits w32) (sym (to_z-of_z {w = w16} f)) (sfits_widen {w = w16} {w' = w32} tt f)
-
 pub from16 : {z : ℤ} → SFits w16 z → E (minus 32768) (pos 32767) (to_z w16 (of_z w16 z)) z
 from16 {z} f = make (to_z-of_z {w = w16} f) (in16_of z f) tt
 

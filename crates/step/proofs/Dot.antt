@@ -5,33 +5,18 @@ use native.Mathlib.Omega.{arith}
 use mathlib.Core.Bool.{true}
 use mathlib.Core.List.{List, [], ◌∷◌, reverse, zip_with}
 use mathlib.Core.Path.{◌≡◌, ◌∙◌, refl, sym, ap, subst}
-use lib.IntN.{ℤ, pos, nat_abs, ◌+ℤ◌, ◌*ℤ◌, +ℤ_idl, +ℤ_idr, +ℤ_assoc, zero-*ℤ, *ℤ-zero}
-use lib.ListN.{length, get_or, take, drop}
+use lib.IntN.{ℤ, pos, nat_abs, ◌+ℤ◌, ◌*ℤ◌, zero-*ℤ, *ℤ-zero}
+use lib.ListN.{get_or, take, drop}
 use lib.Seq.{get_or-drop}
+use Rattle.std.proofs.lemmas.Int.{unsigned_abs-mul}
+use Rattle.std.proofs.lemmas.List.{get_or-reverse}
 use Rattle.fixed.specs.Number.{minus, In, In16}
-use Rattle.fixed.proofs.Signed.{abs_in, abs_mul, abs_add, in_abs}
+use Rattle.fixed.proofs.Signed.{abs_in, abs_add, in_abs}
 use Rattle.band.specs.Tables.{QMF_COEFFS}
 use Rattle.band.specs.Bounds.{all_words}
 use Rattle.band.proofs.Boxes.{more_words, head_word, tail_words, words_drop, words_take}
+use Rattle.band.proofs.Totals.{total_all, total_next}
 use Rattle.step.specs.Qmf.{dot, every_other, even_sum, odd_sum}
-
--- ---- one product more, and all of them
-dot_next : (xs cs : List ℤ) (i : ℕ) → dot (take i xs) cs +ℤ get_or xs i (pos 0) *ℤ get_or cs i (pos 0) ≡ dot (take (suc i) xs) cs
-unfolding zip_with
-dot_next [] cs zero = +ℤ_idl (pos 0 *ℤ get_or cs 0 (pos 0)) ∙ zero-*ℤ (get_or cs 0 (pos 0))
-dot_next [] cs (suc i) = +ℤ_idl (pos 0 *ℤ get_or cs (suc i) (pos 0)) ∙ zero-*ℤ (get_or cs (suc i) (pos 0))
-dot_next (x ∷ xs) [] zero = +ℤ_idl (x *ℤ pos 0) ∙ *ℤ-zero x
-dot_next (x ∷ xs) [] (suc i) = +ℤ_idl (get_or xs i (pos 0) *ℤ pos 0) ∙ *ℤ-zero (get_or xs i (pos 0))
-dot_next (x ∷ xs) (c ∷ cs) zero = +ℤ_idl (x *ℤ c) ∙ sym (+ℤ_idr (x *ℤ c))
-dot_next (x ∷ xs) (c ∷ cs) (suc i) =
-    +ℤ_assoc (x *ℤ c) (dot (take i xs) cs) (get_or xs i (pos 0) *ℤ get_or cs i (pos 0)) ∙ ap (λ (z : ℤ). x *ℤ c +ℤ z) (dot_next xs cs i)
-
-dot_all : (xs cs : List ℤ) → dot (take (length cs) xs) cs ≡ dot xs cs
-unfolding zip_with
-dot_all [] [] = refl
-dot_all (x ∷ xs) [] = refl
-dot_all [] (c ∷ cs) = refl
-dot_all (x ∷ xs) (c ∷ cs) = ap (λ (z : ℤ). x *ℤ c +ℤ z) (dot_all xs cs)
 
 -- ---- a sum over numbers of 16 bits
 abbrev weight : List ℤ → ℕ
@@ -39,7 +24,7 @@ weight [] = 0
 weight (c ∷ cs) = 32768 * nat_abs c + weight cs
 
 term_most : (x c : ℤ) → In16 x → nat_abs (x *ℤ c) ≤ 32768 * nat_abs c
-term_most x c i = rw (abs_mul x c) (mul-le-mul (abs_in (minus 32768) (pos 32767) x i) (le_refl _))
+term_most x c i = rw (unsigned_abs-mul x c) (mul-le-mul (abs_in (minus 32768) (pos 32767) x i) (le_refl _))
 
 dot_most : (xs cs : List ℤ) → all_words xs ≡ true → nat_abs (dot xs cs) ≤ weight cs
 unfolding zip_with
@@ -74,19 +59,7 @@ next_at x i =
     other_at (drop 1 x) i ∙ get_or-drop 1 x (2 * i) (pos 0) ∙ ap (λ (n : ℕ). get_or x n (pos 0)) e
 
 reverse_at : (i : ℕ) → i < 12 → get_or (reverse QMF_COEFFS) i (pos 0) ≡ get_or QMF_COEFFS (11 - i) (pos 0)
-reverse_at zero h = refl
-reverse_at (suc zero) h = refl
-reverse_at (suc (suc zero)) h = refl
-reverse_at (suc (suc (suc zero))) h = refl
-reverse_at (suc (suc (suc (suc zero)))) h = refl
-reverse_at (suc (suc (suc (suc (suc zero))))) h = refl
-reverse_at (suc (suc (suc (suc (suc (suc zero)))))) h = refl
-reverse_at (suc (suc (suc (suc (suc (suc (suc zero))))))) h = refl
-reverse_at (suc (suc (suc (suc (suc (suc (suc (suc zero)))))))) h = refl
-reverse_at (suc (suc (suc (suc (suc (suc (suc (suc (suc zero))))))))) h = refl
-reverse_at (suc (suc (suc (suc (suc (suc (suc (suc (suc (suc zero)))))))))) h = refl
-reverse_at (suc (suc (suc (suc (suc (suc (suc (suc (suc (suc (suc zero))))))))))) h = refl
-reverse_at (suc (suc (suc (suc (suc (suc (suc (suc (suc (suc (suc (suc i)))))))))))) h = absurd (omega arith)
+reverse_at i h = get_or-reverse QMF_COEFFS i (pos 0) h
 
 -- ---- the two sums up to product i, over a list of numbers of 16 bits
 abbrev pub odd_up_to : List ℤ → ℕ → ℤ
@@ -105,17 +78,17 @@ module _ (x : List ℤ) where
   even_none = refl
 
   pub odd_next : (i : ℕ) → odd_up_to x i +ℤ get_or x (2 * i) (pos 0) *ℤ get_or QMF_COEFFS i (pos 0) ≡ odd_up_to x (suc i)
-  odd_next i = ap (λ (z : ℤ). odd_up_to x i +ℤ z *ℤ get_or QMF_COEFFS i (pos 0)) (sym (other_at x i)) ∙ dot_next (every_other x) QMF_COEFFS i
+  odd_next i = ap (λ (z : ℤ). odd_up_to x i +ℤ z *ℤ get_or QMF_COEFFS i (pos 0)) (sym (other_at x i)) ∙ total_next ◌*ℤ◌ zero-*ℤ *ℤ-zero (every_other x) QMF_COEFFS i
 
   pub even_next : (i : ℕ) → i < 12 → even_up_to x i +ℤ get_or x (2 * i + 1) (pos 0) *ℤ get_or QMF_COEFFS (11 - i) (pos 0) ≡ even_up_to x (suc i)
   even_next i h =
-      (λ t. even_up_to x i +ℤ sym (next_at x i) t *ℤ sym (reverse_at i h) t) ∙ dot_next (every_other (drop 1 x)) (reverse QMF_COEFFS) i
+      (λ t. even_up_to x i +ℤ sym (next_at x i) t *ℤ sym (reverse_at i h) t) ∙ total_next ◌*ℤ◌ zero-*ℤ *ℤ-zero (every_other (drop 1 x)) (reverse QMF_COEFFS) i
 
   pub odd_all : odd_up_to x 12 ≡ odd_sum x
-  odd_all = dot_all (every_other x) QMF_COEFFS
+  odd_all = total_all ◌*ℤ◌ (every_other x) QMF_COEFFS
 
   pub even_all : even_up_to x 12 ≡ even_sum x
-  even_all = dot_all (every_other (drop 1 x)) (reverse QMF_COEFFS)
+  even_all = total_all ◌*ℤ◌ (every_other (drop 1 x)) (reverse QMF_COEFFS)
 
   module _ (w : all_words x ≡ true) where
     pub odd_in : (i : ℕ) → In (minus 212402176) (pos 212402176) (odd_up_to x i)

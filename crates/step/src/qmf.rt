@@ -1,7 +1,8 @@
 // The QMF filters.
 ghost use Rattle.std.specs.Prelude.{◌≡◌};
-ghost use Rattle.band.specs.Tables.{QMF_COEFFS};
 ghost use Rattle.step.specs.Qmf.{taking, even_sum, odd_sum, IsSum, transmitted, received};
+
+use band::tables;
 
 #[derive(Clone, Copy)]
 pub(crate) struct Sums {
@@ -9,36 +10,26 @@ pub(crate) struct Sums {
     pub odd: i32,
 }
 
-// x moves down two places and takes a and b.
+// x moves down two places and takes a and b. Into a copy: `copy_within` goes through memory and is slower.
 pub(crate) fn shifted(x: [i16; 24], a: i16, b: i16) -> [i16; 24]
     ensures { result ≡ taking x a b }
 {
     let mut y = x;
-    let mut i: usize = 0;
-    while i < 22 {
-        y[i] = x[i + 2];
-        i += 1;
-    }
+    y[..22].copy_from_slice(&x[2..]);
     y[22] = a;
     y[23] = b;
     y
 }
 
-pub(crate) fn sum(qmf: &[i16; 12], x: [i16; 24]) -> Sums
-    requires { qmf.now ≡ QMF_COEFFS }
+// By index: the even sum takes the coefficients from their end.
+pub(crate) fn sum(x: [i16; 24]) -> Sums
     ensures { (IsSum (even_sum x) result.even) × (IsSum (odd_sum x) result.odd) }
 {
-    let mut even: i32 = 0;
-    let mut odd: i32 = 0;
-    let mut i: usize = 0;
-    while i < 12 {
-        let a = x[2 * i];
-        let b = x[2 * i + 1];
-        let c = qmf[i];
-        let e = qmf[11 - i];
-        odd = odd + fixed::product(a, c);
-        even = even + fixed::product(b, e);
-        i += 1;
+    let mut even = 0;
+    let mut odd = 0;
+    for i in 0..12 {
+        odd += fixed::product(x[2 * i], tables::QMF_COEFFS[i]);
+        even += fixed::product(x[2 * i + 1], tables::QMF_COEFFS[11 - i]);
     }
     Sums { even, odd }
 }

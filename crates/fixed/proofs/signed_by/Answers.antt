@@ -8,6 +8,6 @@ pub returns-then-x-lt0 : goal.returns-then-x-lt0
 unfolding signed_by
 returns-then-x-lt0 c = gives (to (neg (var c.requires tt) tt) (taken _ _ (negative c.ranges.x c.if-x-lt0.true)))
 
-pub returns : goal.returns
+pub returns-else-x-lt0 : goal.returns-else-x-lt0
 unfolding signed_by
-returns c = gives (to (var c.requires tt) (taken _ _ (negative c.ranges.x c.if-x-lt0.false)))
+returns-else-x-lt0 c = gives (to (var c.requires tt) (taken _ _ (negative c.ranges.x c.if-x-lt0.false)))

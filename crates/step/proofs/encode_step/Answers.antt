@@ -1,29 +1,22 @@
-use Rattle.std.proofs.Common.{rules, arith, refl, ap, sym, ◌∙◌, ◌≡◌, ℕ, ◌+◌, ◌*◌, ◌/◌, ◌≤◌, List, ℤ, pos, get_or}
+use Rattle.std.proofs.Common.{rules, arith, ap, sym, ◌∙◌, ◌≡◌, ℕ, ◌+◌, ◌*◌, ◌/◌, ◌≤◌, ℤ, pos, get_or}
 use mathlib.Core.Path.{subst}
 use mir.Syntax.{w16}
 use mir.Val.{SFits}
 use Rattle.fixed.specs.Number.{minus, Is, sat, scaled_by}
-use Rattle.fixed.proofs.Wide.{E, add, asks, at1, call, read, same, shr, sub, var}
-use Rattle.fixed.proofs.Half.{ans, entry32, h2, half, wide_h}
+use Rattle.fixed.proofs.Wide.{E, add, at1, call, read, same, shr, sub, to, var}
+use Rattle.fixed.proofs.Half.{ans, h2, half, wide_h}
 use Rattle.band.specs.Tables.{QM2, QM4}
 use Rattle.band.specs.Quantise.{QUANTL, QUANTH}
 use Rattle.band.specs.Adapt.{LOGSCH, LOGSCL, SCALEH, SCALEL, high_update, low_update, updated}
 use Rattle.band.proofs.Codes.{quantl_most, quanth_most}
 use Rattle.step.specs.Qmf.{taking, even_sum, odd_sum}
 use Rattle.step.specs.Step.{encode_step}
+use Rattle.step.proofs.Entries.{four, in_four, in_two, two}
 use Rattle.step.proofs.encode_step.Goals as goal
 
 -- a sum in its range
 ranged : {v r : ℤ} → Is (minus 212402176) (pos 212402176) v r → E (minus 212402176) (pos 212402176) r r
 ranged e = var e.range tt
-
--- the entries of the inverse quantisers' tables
-module _ {xs : List ℤ} {i j : ℕ} (e : i ≡ j) where
-  four : xs ≡ QM4 → E (minus 32767) (pos 32767) (get_or xs i (pos 0)) (get_or QM4 j (pos 0))
-  four g = entry32 QM4 (minus 32767) (pos 32767) tt tt g e
-
-  two : xs ≡ QM2 → E (minus 32767) (pos 32767) (get_or xs i (pos 0)) (get_or QM2 j (pos 0))
-  two g = entry32 QM2 (minus 32767) (pos 32767) tt tt g e
 
 -- the codes' ranges
 low_most : {r : ℕ} (e d : ℤ) → r ≡ QUANTL e d → r ≤ 63
@@ -38,13 +31,12 @@ overflow_sub-xlow c =
     let xlow = same (shr (add (ranged c.sum-sums.ensures.0) (ranged c.sum-sums.ensures.1) tt) 14 tt) c.transmitted-xlow.ensures in
     (sub xlow (wide_h (half s)) tt).fits
 
-pub bounds-qm4-ril : goal.bounds-qm4-ril
-bounds-qm4-ril c = omega (arith, low_most _ _ c.quantl-ilow.ensures)
+pub bounds-ril : goal.bounds-ril
+bounds-ril c = omega (arith, low_most _ _ c.quantl-ilow.ensures)
 
 pub low_update-new_low-requires : goal.low_update-new_low-requires
 low_update-new_low-requires c =
-    let p = c.requires in
-    (p.is_wl, p.is_rl42, p.is_ilb, omega (arith, low_most _ _ c.quantl-ilow.ensures), asks (four refl p.is_qm4) _ _ tt tt)
+    (omega (arith, low_most _ _ c.quantl-ilow.ensures), in_four _)
 
 pub overflow_sub-xhigh : goal.overflow_sub-xhigh
 overflow_sub-xhigh c =
@@ -52,13 +44,12 @@ overflow_sub-xhigh c =
     let xhigh = same (shr (sub (ranged c.sum-sums.ensures.0) (ranged c.sum-sums.ensures.1) tt) 14 tt) c.transmitted-xhigh.ensures in
     (sub xhigh (wide_h (half s)) tt).fits
 
-pub bounds-qm2-code : goal.bounds-qm2-code
-bounds-qm2-code c = omega (arith, high_most _ _ c.quanth-ihigh.ensures)
+pub bounds-code : goal.bounds-code
+bounds-code c = omega (arith, high_most _ _ c.quanth-ihigh.ensures)
 
 pub high_update-new_high-requires : goal.high_update-new_high-requires
 high_update-new_high-requires c =
-    let p = c.requires in
-    (p.is_wh, p.is_rh2, p.is_ilb, omega (arith, high_most _ _ c.quanth-ihigh.ensures), asks (two refl p.is_qm2) _ _ tt tt)
+    (omega (arith, high_most _ _ c.quanth-ihigh.ensures), in_two _)
 
 pub overflow_mul-byte : goal.overflow_mul-byte
 overflow_mul-byte c = omega (arith, high_most _ _ c.quanth-ihigh.ensures)
@@ -70,7 +61,6 @@ pub returns : goal.returns
 unfolding encode_step low_update high_update
 returns c =
     let f = c.args.f in
-    let p = c.requires in
     let low_s : SFits w16 f.low.s = search rules in
     let low_det : SFits w16 f.low.det = search rules in
     let high_s : SFits w16 f.high.s = search rules in
@@ -85,7 +75,7 @@ returns c =
     let ilow = c.quantl-ilow.ensures ∙ h2 el (half low_det) QUANTL in
     let ihigh = c.quanth-ihigh.ensures ∙ h2 eh (half high_det) QUANTH in
     let low = c.low_update-new_low.ensures
-    ∙ λ t. updated LOGSCL SCALEL f.low (scaled_by f.low.det (read (four (ap (λ (n : ℕ). n / 4) ilow) p.is_qm4) t)) (ilow t / 4) in
+    ∙ λ t. updated LOGSCL SCALEL f.low (scaled_by f.low.det (read (to (four _) (ap (λ (n : ℕ). get_or QM4 (n / 4) (pos 0)) ilow)) t)) (ilow t / 4) in
     let high = c.high_update-new_high.ensures
-    ∙ λ t. updated LOGSCH SCALEH f.high (scaled_by f.high.det (read (two ihigh p.is_qm2) t)) (ihigh t) in
+    ∙ λ t. updated LOGSCH SCALEH f.high (scaled_by f.high.det (read (to (two _) (ap (λ (n : ℕ). get_or QM2 n (pos 0)) ihigh)) t)) (ihigh t) in
     λ t. record { filters = record { x = x t; low = low t; high = high t }; byte = 64 * ihigh t + ilow t }

@@ -6,7 +6,7 @@ use mir.Syntax.{w16}
 use mir.Val.{SFits}
 use Prim.Native.Nat.{◌<◌, ◌^◌}
 use Rattle.fixed.specs.Number.{minus, clamp_z, sat}
-use Rattle.fixed.proofs.Signed.{within}
+use Rattle.fixed.proofs.Signed.{clamped, within}
 use Rattle.fixed.proofs.Wide.{E, add, at1, at3, call, from16, le_asks, lit, narrow_is, neg, rd, sub}
 use Rattle.fixed.proofs.Half.{H, ans, half, rh, scales, signs2, wide_h}
 use Rattle.band.specs.Bounds.{a1_and_a2_most}
@@ -31,7 +31,7 @@ returns c =
     let wd3 = ans c.saturate-wd3.ensures (at1 (add wd1 wd2 tt) sat) c.saturate-wd3.type_inv in
     let most = wide_h (limit c.saturate-most.ensures c.saturate-most.type_inv c.ranges.ap2) in
     let clamped : E (minus 32768) (pos 32767) c.clamp.result (UPPOL1 s.a1 s.ap2 s.p0 s.p1) = record {
-      is = c.clamp.ensures.is ∙ at3 (neg most tt) most (wide_h wd3) clamp_z;
+      is = (clamped _ _ _ _ (le_asks (neg most tt) most (limit_le _ c.requires)) c.clamp.ensures.value).is ∙ at3 (neg most tt) most (wide_h wd3) clamp_z;
       range = within _ _ (pole_lit _ c.requires (pole_in s.a1 s.ap2 s.p0 s.p1 c.requires)) tt tt;
       fits = sfits_of c.clamp.type_inv;
     } in

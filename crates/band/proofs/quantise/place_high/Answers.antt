@@ -13,6 +13,6 @@ pub returns-then-below : goal.returns-then-below
 unfolding place_high
 returns-then-below c = (taken 1 2 (sym (c.below.ensures ∙ level (half c.ranges.w) (half c.ranges.det)) ∙ c.if-below.true), lit< tt)
 
-pub returns : goal.returns
+pub returns-else-below : goal.returns-else-below
 unfolding place_high
-returns c = (taken 1 2 (sym (c.below.ensures ∙ level (half c.ranges.w) (half c.ranges.det)) ∙ c.if-below.false), lit< tt)
+returns-else-below c = (taken 1 2 (sym (c.below.ensures ∙ level (half c.ranges.w) (half c.ranges.det)) ∙ c.if-below.false), lit< tt)

@@ -1,47 +1,39 @@
-use Rattle.std.proofs.Common.{rules, arith, refl, ◌∙◌, ◌≡◌, ℕ, suc, ◌+◌, ◌<◌, length, List, [], ◌∷◌, ◌++◌, ℤ, pos, add-one, drop, get_or, drop-cons, set, length-append, length-drop}
-use mathlib.Core.List.{append-nil}
+use Rattle.std.proofs.Common.{rules, arith, sym, ◌∙◌, ◌≡◌, ◌≤◌, length, List, [], ◌∷◌, ◌++◌, ℤ, take, drop, length-drop}
+use Rattle.std.proofs.Math.ListN.{set}
+use Rattle.std.proofs.lemmas.List.{length-take, length-take-le, take_all}
+use Rattle.std.proofs.lemmas.List.Edits.{sets-eq, take-paste, length-paste}
 use lib.ListN.{drop_of_length-le}
-use lib.Seq.{sets, sets-eq, drop-length}
-use mir.Syntax.{w16}
-use mir.Val.{SFits, to_z, of_z}
+use lib.Seq.{paste}
+use mathlib.Core.List.{append-nil}
 use mir.Facts.{to_z-of_z}
+use Rattle.step.specs.Qmf.{taking}
 use Rattle.step.proofs.qmf.shifted.Goals as goal
 
--- one turn, over lists
-turn : (x y e g : List ℤ) (i : ℕ) → i + 2 < length x → sets y i (drop (i + 2) x ++ e) ≡ g
-    → sets (set y i (get_or x (i + 2) (pos 0))) (i + 1) (drop (i + 1 + 2) x ++ e) ≡ g
-turn x y e g i h inv =
-    let s : i + 1 + 2 ≡ suc (i + 2) = omega arith in
-    rw (s, add-one i) (rw (drop-cons x (i + 2) (pos 0) h) at inv)
+moved : (x : List ℤ) (a b : ℤ) → length x ≡ 24 → set (set (paste x 0 (drop 2 x) 22) 22 a) 23 b ≡ taking x a b
+moved x a b n =
+    let y = paste x 0 (drop 2 x) 22 in
+    let rest : 22 ≤ length (drop 2 x) = simp length-drop (omega arith) in
+    let long : length y ≡ length x = length-paste x 0 (drop 2 x) 22 (omega arith) rest in
+    let front : take 22 y ≡ take 22 (drop 2 x) = take-paste x 0 (drop 2 x) 22 (omega arith) rest in
+    let whole : take 22 (drop 2 x) ≡ drop 2 x = take_all 22 (drop 2 x) (simp length-drop (omega arith)) in
+    let none : drop 24 y ≡ [] = drop_of_length-le y {i = 24} (omega arith) in
+    sets-eq (a ∷ b ∷ []) y 22 (omega arith) ∙ (λ t. ((front ∙ whole) t ++ (a ∷ b ∷ [])) ++ none t) ∙ append-nil (taking x a b)
 
--- the whole is overwritten
-whole : (x v : List ℤ) → length v ≡ length x → sets x 0 v ≡ v
-whole x v e =
-    let z : 0 + length v ≡ length x = omega arith in
-    sets-eq v x 0 (omega arith) ∙ rw (z, drop-length) (append-nil v)
-
-last : (x y e : List ℤ) (i : ℕ) → length x ≡ 24 → length e ≡ 2 → i ≡ 22 → sets y i (drop (i + 2) x ++ e) ≡ sets x 0 (drop 2 x ++ e)
-    → sets y 22 e ≡ drop 2 x ++ e
-last x y e i n m k inv =
-    let none : drop (i + 2) x ≡ [] = drop_of_length-le x {i = i + 2} (omega arith) in
-    (rw (none, k) at inv) ∙ whole x (drop 2 x ++ e) (simp (length-append, length-drop) (omega arith))
-
-pub loop-i-init : goal.loop-i-init
-loop-i-init c = record { in_range = omega arith; to_write = refl }
-
-pub loop-i-preserved : goal.loop-i-preserved
-loop-i-preserved c =
+pub slice_bounds-copy_from_slice-end : goal.slice_bounds-copy_from_slice-end
+slice_bounds-copy_from_slice-end c =
     let x : List ℤ = c.args.x in
     let long : length x ≡ 24 = search rules in
-    let f : SFits w16 (get_or x (c.loop-i.i + 2) (pos 0)) = search rules in
-    record {
-      in_range = omega arith;
-      to_write = rw (to_z-of_z f) (turn x c.loop-i.y _ _ c.loop-i.i (omega arith) c.loop-i.invariant.to_write);
-    }
+    sym (length-take-le 22 x (omega arith))
+
+pub copy_from_slice-requires : goal.copy_from_slice-requires
+copy_from_slice-requires c =
+    let x : List ℤ = c.args.x in
+    let long : length x ≡ 24 = search rules in
+    simp (length-take, length-drop) (omega arith)
 
 pub returns : goal.returns
 returns c =
     let x : List ℤ = c.args.x in
     let long : length x ≡ 24 = search rules in
-    last x c.loop-i.y (to_z w16 (of_z w16 c.args.a) ∷ to_z w16 (of_z w16 c.args.b) ∷ []) c.loop-i.i long refl (omega arith) c.loop-i.invariant.to_write
-    ∙ rw (to_z-of_z c.ranges.a, to_z-of_z c.ranges.b)
+    let y = c.copy_from_slice.ensures.after in
+    (λ t. set (set (y t ++ drop 22 x) 22 (to_z-of_z c.ranges.a t)) 23 (to_z-of_z c.ranges.b t)) ∙ moved x c.args.a c.args.b long

@@ -18,7 +18,7 @@ more {r = r} e i a g =
     same (add z (call a g tt) tt) (λ t. (e ∙ sym (read z)) t +ℤ rd r)
 
 pub loop-i-init : goal.loop-i-init
-loop-i-init c = record { in_range = omega arith; even_so_far = even_none c.args.x; odd_so_far = odd_none c.args.x }
+loop-i-init c = record { even_so_far = even_none c.args.x; odd_so_far = odd_none c.args.x }
 
 pub overflow_add-odd : goal.overflow_add-odd
 overflow_add-odd c =
@@ -37,11 +37,10 @@ loop-i-preserved c =
     let w : all_words x ≡ true = search array_words in
     let fits_a : SFits w16 (get_or x (2 * i) (pos 0)) = search rules in
     let fits_b : SFits w16 (get_or x (2 * i + 1) (pos 0)) = search rules in
-    let q = entry16 QMF_COEFFS tt c.requires in
+    let q = entry16 QMF_COEFFS tt refl in
     let odd = more c.loop-i.invariant.odd_so_far (odd_in x w i) c.product-odd.ensures (h2 (half fits_a) (q i) ◌*ℤ◌) in
     let even = more c.loop-i.invariant.even_so_far (even_in x w i) c.product-even.ensures (h2 (half fits_b) (q (11 - i)) ◌*ℤ◌) in
     record {
-      in_range = omega arith;
       even_so_far = read even ∙ even_next x i c.loop-i-test.true ∙ ap (even_up_to x) (sym (add-one i));
       odd_so_far = read odd ∙ odd_next x i ∙ ap (odd_up_to x) (sym (add-one i));
     }
