@@ -5,9 +5,9 @@ use mathlib.Core.Path.{◌≡◌, refl, sym, ap, ◌∙◌}
 use Prim.Native.Nat.{ℕ, zero, suc, ◌+◌, ◌*◌, ◌-◌, ◌%◌, ◌≤◌, ◌<◌}
 use native.Mathlib.Omega.{arith}
 use lib.IntN.{ℤ}
-use lib.ListN.{length, get_or, take, drop, set, drop_of_length-le, length-drop, take-append-drop}
+use lib.ListN.{length, get_or, take, drop, set, drop_of_length-le, length-drop}
 use lib.Seq.{sets, sets-eq, take_all}
-use borrow.Rule.Slice.PartMut.{mid_of, put_mid, Post-is}
+use borrow.Rule.Slice.PartMut.{mid_of, put_mid}
 use Rattle.samples.specs.Bytes.{sample_of, samples, bytes}
 use Rattle.samples.proofs.Words.{sample_fits}
 use Rattle.fixed.proofs.Wide.{in16_of}
@@ -50,16 +50,17 @@ module _ {A : Type 0} (o : ℕ) (l : List A) where
       let none = drop_of_length-le (drop o l) {i = length l - o} (simp length-drop (omega arith)) in
       rw (part_all, none, append-nil) (sets_drop o l vs h)
 
--- a list from its place i on is a part up to the place e and what follows it
-pub apart : {A : Type 0} (l : List A) (i e : ℕ) → i ≤ e → drop i l ≡ mid_of i (e - i) l ++ drop e l
-apart {A} l i e h = sym (take-append-drop (e - i) (drop i l)) ∙ ap (λ (r : List A). mid_of i (e - i) l ++ r) (Post-is i e l h)
-
 -- ---- samples and bytes
 
 pub samples_cut : (a b : List ℕ) → length a % 2 ≡ 0 → samples (a ++ b) ≡ samples a ++ samples b
 samples_cut [] b even = refl
 samples_cut (lo ∷ []) b even = absurd (omega arith)
 samples_cut (lo ∷ (hi ∷ a)) b even = ap (λ (l : List ℤ). sample_of lo hi ∷ l) (samples_cut a b (omega arith))
+
+pub samples_none : (l : List ℕ) → length l < 2 → samples l ≡ []
+samples_none [] few = refl
+samples_none (lo ∷ []) few = refl
+samples_none (lo ∷ hi ∷ l) few = absurd (omega arith)
 
 pub bytes_cut : (a b : List ℤ) → bytes (a ++ b) ≡ bytes a ++ bytes b
 bytes_cut [] b = refl

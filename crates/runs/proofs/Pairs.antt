@@ -1,5 +1,5 @@
--- How pairs and samples go together, over both rates at once: a turn of the encoder's loop, lengths, and lists in two parts.
-use Prim.Native.Nat.{ℕ, suc, ◌+◌, ◌/◌, ◌%◌, ◌≤◌, ◌<◌}
+-- How pairs and samples go together, over both rates at once: a turn of each loop, lengths, and lists in two parts.
+use Prim.Native.Nat.{ℕ, suc, ◌+◌, ◌-◌, ◌/◌, ◌%◌, ◌<◌}
 use native.Mathlib.Omega.{arith}
 use native.Mathlib.Numerals.{add-one, one-add}
 use mathlib.Core.Bool.{Bool, true, false, cond, not, ◌&&◌}
@@ -7,60 +7,70 @@ use mathlib.Core.Path.{◌≡◌, refl, sym, ap, ◌∙◌}
 use mathlib.Core.List.{List, [], ◌∷◌, ◌++◌, append_assoc}
 use lib.IntN.{ℤ, pos}
 use lib.Dec.{eqb}
-use lib.ListN.{length, drop, get_or, drop_of_length-le, length-append, length-drop}
-use lib.Seq.{drop-cons}
+use lib.ListN.{length, get_or, set, length-append}
+use lib.Seq.{sets}
 use borrow.Author.Tests.{eqb-true, not-false}
 use Rattle.band.specs.declared.Filters.{Filters}
 use Rattle.step.specs.Step.{decode_step}
 use Rattle.runs.specs.Rates.{resamples, encode_room, decode_room, odd_at}
 use Rattle.runs.specs.Runs.{Pair, pair, doubled, paired, pairs_at, kept_of, kept_at, pairs_of_bytes}
-use Rattle.runs.proofs.RateLaws.{ahead_at, nothing, no_samples, decode_room_cut}
+use Rattle.runs.proofs.RateLaws.{samples_a_byte, some_samples, nothing, no_samples, decode_room_cut}
 
 -- ---- the encoder's next pair
 
-paired_more : (xs : List ℤ) (i : ℕ) → i + 1 < length xs
-    → paired (drop i xs) ≡ pair (get_or xs i (pos 0)) (get_or xs (i + 1) (pos 0)) ∷ paired (drop (i + 2) xs)
-unfolding paired
-paired_more xs i more =
-    let two : i + 2 ≡ suc (i + 1) = omega arith in
-    rw (drop-cons xs i (pos 0) (omega arith), ← add-one i, drop-cons xs (i + 1) (pos 0) more, two)
+-- the first and the last of the samples that go with a byte
+abbrev pub pair_of : ℕ → List ℤ → Pair
+pair_of n xs = pair (get_or xs 0 (pos 0)) (get_or xs (n - 1) (pos 0))
 
-paired_none : (xs : List ℤ) → length xs ≤ 1 → paired xs ≡ []
-unfolding paired
-paired_none [] none = refl
-paired_none (a ∷ []) none = refl
-paired_none (a ∷ b ∷ xs) none = absurd (omega arith)
+more_by : (t : Bool) (xs later : List ℤ) → length xs ≡ cond t 1 2
+    → cond t (doubled (xs ++ later)) (paired (xs ++ later)) ≡ pair_of (cond t 1 2) xs ∷ cond t (doubled later) (paired later)
+unfolding doubled paired
+more_by true (a ∷ []) later long = refl
+more_by true [] later long = absurd (omega arith)
+more_by true (a ∷ b ∷ xs) later long = absurd (omega arith)
+more_by false (a ∷ b ∷ []) later long = refl
+more_by false [] later long = absurd (omega arith)
+more_by false (a ∷ []) later long = absurd (omega arith)
+more_by false (a ∷ b ∷ c ∷ xs) later long = absurd (omega arith)
 
-module _ (xs : List ℤ) (i : ℕ) where
-  more_by : (t : Bool) → i + cond t 0 1 < length xs
-      → cond t (doubled (drop i xs)) (paired (drop i xs))
-      ≡ pair (get_or xs i (pos 0)) (get_or xs (i + cond t 0 1) (pos 0))
-      ∷ cond t (doubled (drop (i + (cond t 0 1 + 1)) xs)) (paired (drop (i + (cond t 0 1 + 1)) xs))
-  unfolding doubled
-  more_by true more =
-      let here : i + 0 ≡ i = omega arith in
-      rw (here, add-one i, drop-cons xs i (pos 0) (omega arith))
-  more_by false more = paired_more xs i more
+pub pairs_more : (rate : ℕ) (xs later : List ℤ) → length xs ≡ samples_a_byte rate
+    → pairs_at rate (xs ++ later) ≡ pair_of (samples_a_byte rate) xs ∷ pairs_at rate later
+unfolding pairs_at
+pairs_more rate = more_by (resamples rate)
 
-  none_by : (t : Bool) → length xs ≤ i + cond t 0 1 → cond t (doubled (drop i xs)) (paired (drop i xs)) ≡ []
-  unfolding doubled
-  none_by true none = rw (drop_of_length-le xs {i = i} (omega arith))
-  none_by false none = paired_none (drop i xs) (simp length-drop (omega arith))
+none_by : (t : Bool) (xs : List ℤ) → length xs < cond t 1 2 → cond t (doubled xs) (paired xs) ≡ []
+unfolding doubled paired
+none_by t [] few = nothing t []
+none_by true (a ∷ xs) few = absurd (omega arith)
+none_by false (a ∷ []) few = refl
+none_by false (a ∷ b ∷ xs) few = absurd (omega arith)
 
-module _ (rate : ℕ) (xs : List ℤ) (i : ℕ) where
-  pub pairs_more : i + ahead_at rate < length xs
-      → pairs_at rate (drop i xs)
-      ≡ pair (get_or xs i (pos 0)) (get_or xs (i + ahead_at rate) (pos 0)) ∷ pairs_at rate (drop (i + (ahead_at rate + 1)) xs)
-  unfolding pairs_at
-  pairs_more = more_by xs i (resamples rate)
+pub pairs_none : (rate : ℕ) (xs : List ℤ) → length xs < samples_a_byte rate → pairs_at rate xs ≡ []
+unfolding pairs_at
+pairs_none rate = none_by (resamples rate)
 
-  pub pairs_none : length xs ≤ i + ahead_at rate → pairs_at rate (drop i xs) ≡ []
-  unfolding pairs_at
-  pairs_none = none_by xs i (resamples rate)
+-- ---- the decoder's next samples
+
+both_by : (t : Bool) (a b : ℤ) (out : List ℤ) (o : ℕ) → ◌≡◌ {A = ℕ} (cond t 1 2) 2
+    → set (set out o a) (o + 1) b ≡ sets out o (a ∷ cond t [] (b ∷ []))
+both_by true a b out o two = absurd (omega arith)
+both_by false a b out o two = rw (add-one o)
+
+pub kept_both : (rate : ℕ) (a b : ℤ) (out : List ℤ) (o : ℕ) → samples_a_byte rate ≡ 2
+    → set (set out o a) (o + 1) b ≡ sets out o (kept_of rate (pair a b))
+unfolding kept_of
+kept_both rate = both_by (resamples rate)
+
+first_by : (t : Bool) (a b : ℤ) (out : List ℤ) (o : ℕ) → (◌≡◌ {A = ℕ} (cond t 1 2) 2 → ⊥) → set out o a ≡ sets out o (a ∷ cond t [] (b ∷ []))
+first_by true a b out o one = refl
+first_by false a b out o one = absurd (one refl)
+
+pub kept_first : (rate : ℕ) (a b : ℤ) (out : List ℤ) (o : ℕ) → (samples_a_byte rate ≡ 2 → ⊥) → set out o a ≡ sets out o (kept_of rate (pair a b))
+unfolding kept_of
+kept_first rate = first_by (resamples rate)
 
 pub no_pairs : (rate : ℕ) → pairs_at rate [] ≡ []
-unfolding pairs_at doubled paired
-no_pairs rate = nothing (resamples rate) []
+no_pairs rate = pairs_none rate [] (some_samples rate)
 
 -- ---- as many items as the room says
 

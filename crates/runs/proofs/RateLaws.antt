@@ -1,5 +1,5 @@
 -- Laws of what the rate decides: of nothing, of one byte, and of a sum.
-use Prim.Native.Nat.{ℕ, ◌+◌, ◌*◌, ◌/◌, ◌%◌, ◌≤◌}
+use Prim.Native.Nat.{ℕ, ◌+◌, ◌*◌, ◌/◌, ◌%◌, ◌<◌}
 use native.Mathlib.Omega.{arith}
 use mathlib.Core.Bool.{Bool, true, false, cond, not, ◌&&◌}
 use mathlib.Core.Path.{◌≡◌, refl}
@@ -7,16 +7,16 @@ use lib.Dec.{eqb}
 use borrow.Author.Tests.{eqb-true, eq-eqb, not-false}
 use Rattle.runs.specs.Rates.{resamples, encode_room, decode_room, odd_at}
 
--- how far the second sample of a pair stands behind the first
-abbrev pub ahead_at : ℕ → ℕ
-ahead_at rate = cond (resamples rate) 0 1
+-- how many samples go with a byte
+abbrev pub samples_a_byte : ℕ → ℕ
+samples_a_byte rate = cond (resamples rate) 1 2
 
-ahead_le_by : (t : Bool) → cond t 0 1 ≤ 1
-ahead_le_by true = omega arith
-ahead_le_by false = omega arith
+some_by : (t : Bool) → 0 < cond t 1 2
+some_by true = omega arith
+some_by false = omega arith
 
-pub ahead_le : (rate : ℕ) → ahead_at rate ≤ 1
-ahead_le rate = ahead_le_by (resamples rate)
+pub some_samples : (rate : ℕ) → 0 < samples_a_byte rate
+some_samples rate = some_by (resamples rate)
 
 -- ---- nothing
 
@@ -39,16 +39,6 @@ not_odd_by false = refl
 pub not_odd : (rate : ℕ) → odd_at rate 0 ≡ false
 unfolding odd_at
 not_odd rate = not_odd_by (resamples rate)
-
--- ---- one byte
-
-room_one_by : (t : Bool) → 1 ≤ cond t 1 2
-room_one_by true = omega arith
-room_one_by false = omega arith
-
-pub room_one : (rate : ℕ) → 1 ≤ decode_room rate 1
-unfolding decode_room
-room_one rate = room_one_by (resamples rate)
 
 -- ---- a sum
 

@@ -1,10 +1,8 @@
--- The bytes of the samples below i stand in the output, each pair in its place.
-use Rattle.std.proofs.Common.{length, ◌-◌, ℤ}
-use Rattle.samples.proofs.Bytes.{Pairing}
+-- The bytes of the samples below i stand in the output.
+use Rattle.std.proofs.Common.{◌*◌, drop}
+use Rattle.answers.proofs.Filling.{Filling}
+use Rattle.samples.specs.Bytes.{bytes}
 use Rattle.pieces.proofs.pack.Given as goal
 
 abbrev pub invariant-loop-i : goal.invariant-loop-i
-invariant-loop-i l = Pairing (λ (z : ℤ). z) l.input l.initial.out l.out l.i
-
-abbrev pub decreases-loop-i : goal.decreases-loop-i
-decreases-loop-i l = length l.input - l.i
+invariant-loop-i l = Filling (bytes l.input) l.initial.out (bytes (drop l.i l.input)) l.out (2 * l.i)
