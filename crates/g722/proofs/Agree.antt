@@ -6,10 +6,9 @@ use lib.IntN.{ℤ}
 use Rattle.runs.specs.Runs.{pairs_at}
 use Rattle.band.specs.SameBands.{SameBands}
 use Rattle.runs.proofs.Agree.{runs_agree}
-use Rattle.g722.specs.declared.Encoder.{Encoder}
-use Rattle.g722.specs.declared.Decoder.{Decoder}
-use Rattle.g722.specs.Encoding.{encoder_begun, encoder_after, encoded_bytes}
-use Rattle.g722.specs.Decoding.{decoder_begun, decoder_after}
+use Rattle.g722.specs.Session.{Encoder, Decoder, begun}
+use Rattle.g722.specs.Encoding.{encoder_after, encoded_bytes}
+use Rattle.g722.specs.Decoding.{decoder_after}
 
 pub sessions_agree : (e : Encoder) (d : Decoder) (xs : List ℤ) → SameBands e.filters d.filters
     → SameBands (encoder_after e xs).filters (decoder_after d (encoded_bytes e xs)).filters
@@ -17,6 +16,6 @@ unfolding encoder_after encoded_bytes decoder_after
 sessions_agree e d xs h = runs_agree e.filters d.filters (pairs_at e.rate xs) h
 
 -- both kinds are begun with the same filters
-pub begun_agree : (rate rate' start : ℕ) → (encoder_begun rate start).session.filters ≡ (decoder_begun rate' start).session.filters
-unfolding encoder_begun decoder_begun
-begun_agree rate rate' start = refl
+pub begun_agree : (K L : Type 0) (rate rate' start : ℕ) → (begun {K = K} rate start).session.filters ≡ (begun {K = L} rate' start).session.filters
+unfolding begun
+begun_agree K L rate rate' start = refl

@@ -1,26 +1,30 @@
 -- A call on samples as bytes is the call on those samples: number, count, session, and what is left as bytes.
-use mathlib.Core.Bool.{Bool, true, false, cond, and-false}
-use mathlib.Core.List.{List}
-use mathlib.Core.Path.{◌≡◌, refl}
 use Prim.Native.Nat.{ℕ, ◌*◌, ◌/◌, ◌%◌}
-use lib.Dec.{eqb}
+use native.Mathlib.Omega.{arith}
+use mathlib.Core.Bool.{and-false}
+use mathlib.Core.List.{List}
+use mathlib.Core.Path.{◌≡◌}
 use lib.ListN.{length}
 use lib.Seq.{sets}
 use borrow.Author.Tests.{eq-eqb}
+use Rattle.std.specs.Prelude.{Result, Ok, Err}
+use Rattle.std.proofs.lemmas.Bool.Decides.{nat_tests}
 use Rattle.answers.specs.Numbers.{done}
+use Rattle.answers.specs.declared.Answer.{Answer}
+use Rattle.answers.specs.declared.Refusal.{Refusal}
+use Rattle.answers.specs.Outcomes.{outcome}
 use Rattle.samples.specs.Bytes.{samples, bytes}
 use Rattle.samples.proofs.Bytes.{length-samples}
-use Rattle.g722.specs.declared.Encoder.{Encoder}
-use Rattle.g722.specs.declared.Decoder.{Decoder}
-use Rattle.g722.specs.declared.DecoderAnswer.{DecoderAnswer}
-use Rattle.g722.specs.Encoding.{encoder_in_bounds, encoder_after, encoded_bytes, encode_number, encode_answer, encode_out}
+use Rattle.runs.specs.Rates.{decode_room}
+use Rattle.g722.specs.Session.{Encoder, Decoder, in_bounds}
+use Rattle.g722.specs.Encoding.{encoder_after, encoded_bytes, encode_number, encode_answer, encode_out}
 use Rattle.g722.specs.Encoding.{encode_from_bytes_number, encode_from_bytes_answer, encode_from_bytes_out}
-use Rattle.g722.specs.Decoding.{decoder_reply, decoder_after, decoded_samples, decode_number, decode_answer, decode_to_bytes_answer, decode_to_bytes_out}
+use Rattle.g722.specs.Decoding.{decoder_after, decoded_samples, decode_number, decode_answer, decode_to_bytes_answer, decode_to_bytes_out}
 
 module _ (s : Encoder) (input : List ℕ) (even : length input % 2 ≡ 0) where
   number_is : (room : ℕ) → encode_from_bytes_number s (length input) room ≡ encode_number s (length (samples input)) room
   unfolding encode_from_bytes_number
-  number_is room = rw (eq-eqb (length input % 2) 0 even, and-false (encoder_in_bounds s), length-samples input)
+  number_is room = rw (eq-eqb (length input % 2) 0 even, and-false (in_bounds s), length-samples input)
 
   pub encode_from_bytes_is : (room : ℕ) → encode_from_bytes_answer s input room ≡ encode_answer s (samples input) room
   unfolding encode_from_bytes_answer encode_answer
@@ -38,18 +42,22 @@ unfolding encode_from_bytes_answer encode_from_bytes_out
 encoded_from_bytes s input out e = (rw e, rw e)
 
 -- the count alone is doubled
-abbrev pub in_bytes : DecoderAnswer → DecoderAnswer
-in_bytes a = decoder_reply a.number (2 * a.count) a.session
+abbrev doubled : Result ℕ Refusal → Result ℕ Refusal
+doubled (Ok count) = Ok (2 * count)
+doubled (Err refusal) = Err refusal
 
-counted : (t : Bool) (number count : ℕ) (after s : Decoder) → cond t (decoder_reply done (2 * count) after) (decoder_reply number 0 s)
-    ≡ in_bytes (cond t (decoder_reply done count after) (decoder_reply number 0 s))
-counted true number count after s = refl
-counted false number count after s = refl
+abbrev pub in_bytes : Answer Decoder → Answer Decoder
+in_bytes a = record { outcome = doubled a.outcome; session = a.session }
+
+counted : (number count : ℕ) → outcome number (2 * count) ≡ doubled (outcome number count)
+counted number count = grind (arith, nat_tests)
 
 module _ (s : Decoder) (bs : List ℕ) where
   pub decode_to_bytes_is : (room : ℕ) → decode_to_bytes_answer s bs room ≡ in_bytes (decode_answer s bs (room / 2))
   unfolding decode_to_bytes_answer decode_answer
-  decode_to_bytes_is room = counted (eqb (decode_number s (length bs) (room / 2)) done) _ _ _ _
+  decode_to_bytes_is room =
+      let number = decode_number s (length bs) (room / 2) in
+      λ i. record { outcome = counted number (decode_room s.rate (length bs)) i; session = (decode_answer s bs (room / 2)).session }
 
   pub decoded_to_bytes : (out : List ℕ) → decode_number s (length bs) (length out / 2) ≡ done
       → ((decode_to_bytes_answer s bs (length out)).session ≡ decoder_after s bs)

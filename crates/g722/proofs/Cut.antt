@@ -9,11 +9,9 @@ use Rattle.runs.specs.Rates.{encode_room, decode_room, odd_at}
 use Rattle.runs.proofs.RateLaws.{encode_room_cut, decode_room_cut}
 use Rattle.runs.proofs.Cut.{filters_encoded_cut, bytes_encoded_cut, bytes_encoded_length}
 use Rattle.runs.proofs.Cut.{filters_after_bytes_cut, kept_decoded_cut, kept_decoded_length}
-use Rattle.g722.specs.declared.Encoder.{Encoder}
-use Rattle.g722.specs.declared.Decoder.{Decoder}
-use Rattle.g722.specs.Session.{encoder_moves, decoder_moves}
-use Rattle.g722.specs.Encoding.{encoder_at, encoder_after, encoded_bytes}
-use Rattle.g722.specs.Decoding.{decoder_at, decoder_after, decoded_samples}
+use Rattle.g722.specs.Session.{Encoder, Decoder, encoder_moves, decoder_moves, session_at}
+use Rattle.g722.specs.Encoding.{encoder_after, encoded_bytes}
+use Rattle.g722.specs.Decoding.{decoder_after, decoded_samples}
 use Rattle.g722.proofs.MovedOn.{encoder_moves_cut, decoder_moves_cut, on}
 
 -- ---- encoders; at rates other than 8000 the first part ends with a pair
@@ -28,7 +26,7 @@ module _ (s : Encoder) (a b : List ℤ) (even : odd_at s.rate (length a) ≡ fal
   pub encoder_cut : encoder_after s (a ++ b) ≡ encoder_after (encoder_after s a) b
   unfolding encoder_after
   encoder_cut =
-      λ i. encoder_at s.rate s.start (on s.position _ _ _ encode_moves_cut i) (filters_encoded_cut s.rate s.filters a b even i)
+      λ i. session_at s.rate s.start (on s.position _ _ _ encode_moves_cut i) (filters_encoded_cut s.rate s.filters a b even i)
 
   pub encoded_cut : encoded_bytes s (a ++ b) ≡ encoded_bytes s a ++ encoded_bytes (encoder_after s a) b
   unfolding encoder_after encoded_bytes
@@ -50,7 +48,7 @@ module _ (s : Decoder) (a b : List ℕ) where
 
   pub decoder_cut : decoder_after s (a ++ b) ≡ decoder_after (decoder_after s a) b
   unfolding decoder_after
-  decoder_cut = λ i. decoder_at s.rate s.start (on s.position _ _ _ decode_moves_cut i) (filters_after_bytes_cut s.filters a b i)
+  decoder_cut = λ i. session_at s.rate s.start (on s.position _ _ _ decode_moves_cut i) (filters_after_bytes_cut s.filters a b i)
 
   pub decoded_cut : decoded_samples s (a ++ b) ≡ decoded_samples s a ++ decoded_samples (decoder_after s a) b
   unfolding decoder_after decoded_samples

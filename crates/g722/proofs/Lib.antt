@@ -1,4 +1,5 @@
 pub mod Numbers
+pub mod Calls
 pub mod MovedOn
 pub mod Cut
 pub mod Written

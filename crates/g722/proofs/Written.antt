@@ -7,9 +7,8 @@ use lib.IntN.{ℤ}
 use lib.ListN.{length, drop}
 use lib.Seq.{sets, sets-eq}
 use Rattle.answers.specs.Numbers.{done}
-use Rattle.g722.specs.declared.Encoder.{Encoder}
-use Rattle.g722.specs.declared.Decoder.{Decoder}
 use Rattle.runs.specs.Rates.{encode_room, decode_room}
+use Rattle.g722.specs.Session.{Encoder, Decoder}
 use Rattle.g722.specs.Encoding.{encoded_bytes, encode_number, encode_out}
 use Rattle.g722.specs.Decoding.{decoded_samples, decode_number, decode_out}
 use Rattle.g722.proofs.Numbers.{encode_taken, encode_done, decode_taken, decode_done}

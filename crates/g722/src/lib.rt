@@ -3,46 +3,43 @@
 
 mod decoders;
 mod encoders;
-mod moves;
-mod starts;
+mod sessions;
 
 use band::Filters;
+use std::marker::PhantomData;
 
+// For callers: nothing here reads them.
 pub const PAYLOAD_TYPE: u8 = 9;
 
 pub const CLOCK_RATE: u32 = 8000;
 
 pub const SAMPLES_PER_FRAME: u32 = 160;
 
-// Position is the count of samples taken, at the session's rate.
+// Both kinds have these as constants of their own; what stands in a generic impl has no value that a proof knows.
+const START_MOST: u8 = 1;
+
+const POSITION_MOST: u32 = u32::MAX;
+
+const MARK_LENGTH_MOST: usize = 512;
+
+// The two kinds of session, at the level of types.
 #[derive(Clone, Copy)]
-pub struct Encoder {
+pub struct Encoding;
+
+#[derive(Clone, Copy)]
+pub struct Decoding;
+
+// Position counts samples at the session's rate: those that an encoder has taken, or a decoder has given out.
+#[derive(Clone, Copy)]
+pub struct Session<K> {
     pub rate: u32,
+    // A number and no enum: `begin` refuses all but 0 and 1, and a session that a caller made may hold any.
     pub start: u8,
     pub position: u32,
     pub filters: Filters,
+    pub kind: PhantomData<K>,
 }
 
-// Position is the count of samples given out, at the session's rate.
-#[derive(Clone, Copy)]
-pub struct Decoder {
-    pub rate: u32,
-    pub start: u8,
-    pub position: u32,
-    pub filters: Filters,
-}
+pub type Encoder = Session<Encoding>;
 
-// The number of the answer, the count of items written, and the session.
-#[derive(Clone, Copy)]
-pub struct EncoderAnswer {
-    pub number: u8,
-    pub count: usize,
-    pub session: Encoder,
-}
-
-#[derive(Clone, Copy)]
-pub struct DecoderAnswer {
-    pub number: u8,
-    pub count: usize,
-    pub session: Decoder,
-}
+pub type Decoder = Session<Decoding>;
