@@ -2,6 +2,7 @@
 use mathlib.Core.Path.{◌≡◌, refl}
 use mathlib.Core.List.{List, [], ◌∷◌, ◌++◌, map}
 use Prim.Native.Nat.{ℕ}
+use Rattle.std.specs.Prelude.{Some, None}
 use lib.IntN.{ℤ, pos, negsuc}
 use lib.ListN.{length, take, replicate}
 use Rattle.text.specs.Ascii.{NEWLINE, MINUS, ZERO, NINE}
@@ -9,7 +10,6 @@ use Rattle.text.specs.Number.{digits_in, digits, decimal, begins, run, value, ma
 use Rattle.text.specs.Fields.{parted, read_field, read_fields}
 use Rattle.line.specs.Letters.{letter_e, letter_d, letter_z, letter_s}
 use Rattle.line.specs.Line.{line_text, headed, plain_two, unsigned, read_line, line_numbers}
-use Rattle.line.specs.declared.Line.TheVariants.{Sound, Malformed}
 
 -- ---- lengths
 
@@ -44,7 +44,7 @@ abbrev one : List ℕ
 one = 49 ∷ []
 
 -- 1, 1 and -9, with more text behind
-pub read_three : read_line 3 (line one one (MINUS ∷ NINE ∷ []) ++ one) ≡ Sound letter_d letter_z 11
+pub read_three : read_line 3 (line one one (MINUS ∷ NINE ∷ []) ++ one) ≡ Some (record { kind = letter_d; start = letter_z; count = 11 })
 unfolding parted read_line headed unsigned plain_two read_fields read_field begins read_number magnitude run value
 read_three = refl
 
@@ -53,7 +53,7 @@ unfolding parted line_numbers headed read_fields read_field begins read_number m
 numbers_three = refl
 
 -- ten digits are taken
-pub ten_taken : read_line 3 (line (replicate 10 NINE) one one) ≡ Sound letter_d letter_z 19
+pub ten_taken : read_line 3 (line (replicate 10 NINE) one one) ≡ Some (record { kind = letter_d; start = letter_z; count = 19 })
 unfolding parted read_line headed unsigned plain_two read_fields read_field begins read_number magnitude run value
 ten_taken = refl
 
@@ -100,6 +100,6 @@ malformed_texts =
     ∷ parted ((letter_d ∷ []) ∷ zero_start_lem ∷ one ∷ one ∷ one ∷ one ∷ [])
     ∷ []
 
-pub malformed_lines : map (read_line 3) malformed_texts ≡ replicate 22 Malformed
+pub malformed_lines : map (read_line 3) malformed_texts ≡ replicate 22 None
 unfolding parted read_line headed unsigned plain_two read_fields read_field begins read_number magnitude run value
 malformed_lines = refl

@@ -1,15 +1,12 @@
 -- A mark line (docs/RULES.md, "Mark lines") of n numbers: its text, reading one at the front of a text, and what it is that a
 -- text begins with a line. Lines that stand behind it are not looked at.
-use Rattle.std.specs.Prelude.{◌≡◌, Bool, true, false, cond, ◌&&◌, ◌||◌, List, [], ◌∷◌, ◌++◌, map, ℕ, ◌+◌, eqb, ℤ, pos, length, drop, get_or}
+use Rattle.std.specs.Prelude.{◌≡◌, Bool, true, false, cond, ◌&&◌, ◌||◌, Option, Some, None, List, [], ◌∷◌, ◌++◌, map, ℕ, ◌+◌, eqb, ℤ, pos, length, drop, get_or}
 use Rattle.std.specs.Int.Signed.{non_neg}
 use Rattle.text.specs.Ascii.{TAB}
 use Rattle.text.specs.Number.{decimal}
 use Rattle.text.specs.Fields.{parted, AllShort, Fields, read_fields}
-use Rattle.text.specs.declared.fields.Ending.{Ending}
-use Rattle.text.specs.declared.fields.Ending.TheVariants.{After, Faulty}
 use Rattle.line.specs.Letters.{letter_e, letter_d, letter_z, letter_s}
 use Rattle.line.specs.declared.Line.{Line}
-use Rattle.line.specs.declared.Line.TheVariants.{Sound, Malformed}
 
 -- ---- writing
 
@@ -36,16 +33,16 @@ headed [] = false
 unfoldable pub plain_two : List ℤ → Bool
 plain_two vs = non_neg (get_or vs 0 (pos 0)) && non_neg (get_or vs 1 (pos 0))
 
-unfoldable pub unsigned : Fields → Ending
-unsigned f = cond (plain_two f.numbers) f.ending Faulty
+unfoldable pub unsigned : Fields → Option ℕ
+unsigned f = cond (plain_two f.numbers) f.ending None
 
 -- a line whose numbers end after so many bytes; the letters and the tab before them are three
-abbrev pub line_of : ℕ → ℕ → Ending → Line
-line_of kind start (After count) = Sound kind start (count + 3)
-line_of kind start Faulty = Malformed
+abbrev pub line_of : ℕ → ℕ → Option ℕ → Option Line
+line_of kind start (Some count) = Some (record { kind = kind; start = start; count = count + 3 })
+line_of kind start None = None
 
-unfoldable pub read_line : ℕ → List ℕ → Line
-read_line n l = cond (headed l) (line_of (get_or l 0 0) (get_or l 2 0) (unsigned (read_fields n (drop 3 l)))) Malformed
+unfoldable pub read_line : ℕ → List ℕ → Option Line
+read_line n l = cond (headed l) (line_of (get_or l 0 0) (get_or l 2 0) (unsigned (read_fields n (drop 3 l)))) None
 
 -- the numbers that are read, where the line is malformed those before the fault
 unfoldable pub line_numbers : ℕ → List ℕ → List ℤ

@@ -5,92 +5,75 @@ ghost use Rattle.std.specs.Prelude.{◌≡◌, ◌++◌, ℕ, ◌≤◌, ◌^◌
 ghost use Rattle.std.proofs.lemmas.List.Edits.{sets};
 ghost use Rattle.std.specs.Int.Signed.{non_neg};
 ghost use Rattle.text.specs.Fields.{read_fields};
-ghost use Rattle.line.specs.Line.{kind_letter, start_letter, line_text, headed, unsigned, read_line, line_numbers};
+ghost use Rattle.line.specs.Line.{kind_letter, start_letter, line_text, unsigned, read_line, line_numbers};
 
-use text::TAB;
-use text::fields::{Ending, fields_length, read_fields, write_fields};
+use text::fields::{fields_length, read_fields, write_fields};
 use text::number::is_plain;
+use text::{TAB, rest};
 
-pub const LETTER_E: u8 = 69;
+pub const LETTER_E: u8 = b'E';
 
-pub const LETTER_D: u8 = 68;
+pub const LETTER_D: u8 = b'D';
 
-pub const LETTER_Z: u8 = 90;
+pub const LETTER_Z: u8 = b'Z';
 
-pub const LETTER_S: u8 = 83;
+pub const LETTER_S: u8 = b'S';
 
-// A line's letters and how many bytes it takes.
+// A line's letters and how many bytes it takes. The letters are bytes, as `write_line` takes them, and as mark compares them.
 #[derive(Clone, Copy)]
-pub enum Line {
-    Sound { kind: u8, start: u8, count: usize },
-    Malformed,
+pub struct Line {
+    pub kind: u8,
+    pub start: u8,
+    pub count: usize,
 }
 
 fn is_kind(b: u8) -> bool
     ensures { result ≡ kind_letter b }
 {
-    (b == LETTER_E) | (b == LETTER_D)
+    matches!(b, LETTER_E | LETTER_D)
 }
 
 fn is_start(b: u8) -> bool
     ensures { result ≡ start_letter b }
 {
-    (b == LETTER_Z) | (b == LETTER_S)
-}
-
-// Whether the two letters with a tab between them stand at `at`.
-fn has_head(s: &[u8], at: usize) -> bool
-    ensures { result ≡ headed (drop at s.now) }
-{
-    if at < s.len() {
-        if 3 <= s.len() - at {
-            return is_kind(s[at]) & (s[at + 1] == TAB) & is_start(s[at + 2]);
-        }
-    }
-    false
+    matches!(b, LETTER_Z | LETTER_S)
 }
 
 // Whether the number at `i` carries no minus; a number that is not there carries none.
 fn no_minus(vs: &[i64], i: usize) -> bool
     ensures { result ≡ non_neg (get_or vs.now i (pos 0)) }
 {
-    if i < vs.len() {
-        return is_plain(vs[i]);
-    }
-    true
+    vs.get(i).is_none_or(|v| is_plain(*v))
 }
 
-// Reads the numbers of a line and its newline at `at`, the first two without a minus.
-fn read_numbers(s: &[u8], at: usize, out: &mut [i64]) -> Ending
-    ensures value { result ≡ unsigned (read_fields (length out.old) (drop at s.now)) }
-    ensures out_after { out.new ≡ sets out.old 0 (read_fields (length out.old) (drop at s.now)).numbers }
+// Reads the numbers of a line and its newline at the front, the first two without a minus.
+fn read_numbers(s: &[u8], out: &mut [i64]) -> Option<usize>
+    ensures value { result ≡ unsigned (read_fields (length out.old) s.now) }
+    ensures out_after { out.new ≡ sets out.old 0 (read_fields (length out.old) s.now).numbers }
 {
-    let ending = read_fields(s, at, out);
-    if no_minus(out, 0) & no_minus(out, 1) {
-        return ending;
-    }
-    Ending::Faulty
+    let count = read_fields(s, 0, out)?;
+    (no_minus(out, 0) && no_minus(out, 1)).then_some(count)
 }
 
-// Reads the line at `at`, with as many numbers as `out` holds. Numbers that were read before a fault are in `out` too.
-pub fn read_line(s: &[u8], at: usize, out: &mut [i64]) -> Line
+// Reads the line at `at`, with as many numbers as `out` holds. Numbers that were read before a fault are in `out` too. Read at a
+// place, as callers have it.
+pub fn read_line(s: &[u8], at: usize, out: &mut [i64]) -> Option<Line>
     ensures value { result ≡ read_line (length out.old) (drop at s.now) }
     ensures out_after { out.new ≡ sets out.old 0 (line_numbers (length out.old) (drop at s.now)) }
 {
-    if has_head(s, at) {
-        let kind = s[at];
-        let start = s[at + 2];
-        let ending = read_numbers(s, at + 3, out);
-        return match ending {
-            Ending::After(count) => Line::Sound {
-                kind,
-                start,
-                count: count + 3,
-            },
-            Ending::Faulty => Line::Malformed,
-        };
+    let text = rest(s, at);
+    let [kind, TAB, start, numbers @ ..] = text else {
+        return None;
+    };
+    if !is_kind(*kind) || !is_start(*start) {
+        return None;
     }
-    Line::Malformed
+    let count = read_numbers(numbers, out)?;
+    Some(Line {
+        kind: *kind,
+        start: *start,
+        count: count + 3,
+    })
 }
 
 // How many bytes a line takes, whatever its letters.

@@ -3,21 +3,18 @@
 use mathlib.Core.Path.{◌≡◌, refl, sym, ap, ◌∙◌}
 use mathlib.Core.List.{List, [], ◌∷◌, ◌++◌, map, append_assoc}
 use mathlib.Core.Logic.{◌↔◌}
+use Rattle.std.specs.Prelude.{Option, Some, None}
 use Prim.Native.Nat.{ℕ, zero, suc, ◌+◌, ◌≤◌, ◌<◌}
 use native.Mathlib.Numerals.{add-one}
 use native.Mathlib.Omega.{arith}
 use lib.IntN.{ℤ, pos}
-use lib.ListN.{length, drop, get_or, length-append, length-drop, drop_of_length-le}
+use lib.ListN.{length, drop, get_or, length-append, drop_of_length-le}
 use lib.Seq.{drop_at, drop-drop, drop-cons}
 use Rattle.text.specs.Ascii.{TAB, NEWLINE}
-use Rattle.text.specs.Number.{decimal, Short, begins, run, read_number}
+use Rattle.text.specs.Number.{decimal, Short, begins, run, read_number, Number}
 use Rattle.text.specs.Fields.{parted, fields_text, AllShort, Fields, after_tab, further, field_then, read_field, read_fields, FieldsOf}
-use Rattle.text.specs.declared.number.Number.{Number}
-use Rattle.text.specs.declared.number.Number.TheVariants.{Value, NoNumber}
-use Rattle.text.specs.declared.fields.Ending.{Ending}
-use Rattle.text.specs.declared.fields.Ending.TheVariants.{After, Faulty}
-use Rattle.text.proofs.Tests.{Test, yes!, no!, test}
-use Rattle.text.proofs.NumberTexts.{begins_split, read_decimal, decimal_read}
+use Rattle.text.proofs.Tests.{Test, yes!, no!, test, some_is, none_some}
+use Rattle.text.proofs.NumberTexts.{begins_split, number, read_decimal, decimal_read}
 
 -- the text after a first field is that of fields parted by tabs
 pub parted_is : (f : List ℕ) (vs : List ℤ) → parted (f ∷ map decimal vs) ≡ f ++ fields_text vs
@@ -27,7 +24,8 @@ parted_is f (v ∷ vs) = ap (λ (m : List ℕ). f ++ TAB ∷ m) (parted_is (deci
 
 -- ---- a field
 
-read_field_lem : (v : ℤ) (t : List ℕ) → Short v → run t ≡ 0 → read_field (TAB ∷ (decimal v ++ t)) ≡ Value v (length (decimal v) + 1)
+read_field_lem : (v : ℤ) (t : List ℕ) → Short v → run t ≡ 0
+    → read_field (TAB ∷ (decimal v ++ t)) ≡ number v (length (decimal v) + 1)
 unfolding read_field begins
 read_field_lem v t h s = ap after_tab (read_decimal v t h s)
 
@@ -37,31 +35,29 @@ pub record FieldOf (l : List ℕ) (v : ℤ) (count : ℕ) : Type 0 where
   pub counted : count ≡ length (decimal v) + 1
   pub text : l ≡ TAB ∷ (decimal v ++ drop count l)
 
-pub field_read : (l : List ℕ) (v : ℤ) (c : ℕ) → read_field l ≡ Value v c → FieldOf l v c
+pub field_read : (l : List ℕ) (n : Number) → read_field l ≡ Some n → FieldOf l n.value n.count
 unfolding read_field
-field_read l v c e = go (test (begins TAB l))
+field_read l n e = go (test (begins TAB l))
   where
-    found : (m : List ℕ) (n : Number) → read_number m ≡ n → after_tab n ≡ Value v c → FieldOf (TAB ∷ m) v c
-    found m NoNumber p q = absurd (let z : ◌≡◌ {A = ℕ} 0 1 = cc in omega arith)
-    found m (Value w d) p q =
-        let ev : w ≡ v = cc in
-        let ec : d + 1 ≡ c = cc in
-        let h = decimal_read m w d p in
-        rw (← ev, ← ec)
+    found : (m : List ℕ) (x : Option Number) → read_number m ≡ x → after_tab x ≡ Some n → FieldOf (TAB ∷ m) n.value n.count
+    found m None p q = none_some q
+    found m (Some x) p q =
+        let h = decimal_read m x p in
+        rw (← some_is q)
         (record {
           short = h.short;
           counted = ap (λ (k : ℕ). k + 1) h.counted;
-          text = rw (add-one d) (ap (λ (x : List ℕ). TAB ∷ x) h.text);
+          text = rw (add-one x.count) (ap (λ (y : List ℕ). TAB ∷ y) h.text);
         })
 
-    go : Test (begins TAB l) → FieldOf l v c
-    go (no! z) = absurd (let w : NoNumber ≡ Value v c = rw z at e in let q : ◌≡◌ {A = ℕ} 0 1 = cc in omega arith)
+    go : Test (begins TAB l) → FieldOf l n.value n.count
+    go (no! z) = none_some (rw z at e)
     go (yes! z) = rw (begins_split TAB l z) (found (drop 1 l) (read_number (drop 1 l)) refl (rw z at e))
 
-pub field_inside : (s : List ℕ) (at : ℕ) (v : ℤ) (c : ℕ) → read_field (drop at s) ≡ Value v c → at + c ≤ length s
-field_inside s at v c e =
-    let h = field_read (drop at s) v c e in
-    omega (arith, h.counted, ap length h.text, length-append (decimal v) (drop c (drop at s)), length-drop at s)
+pub field_inside : (l : List ℕ) (n : Number) → read_field l ≡ Some n → n.count ≤ length l
+field_inside l n e =
+    let h = field_read l n e in
+    omega (arith, h.counted, ap length h.text, length-append (decimal n.value) (drop n.count l))
 
 -- ---- one field more of those from i on
 
@@ -88,7 +84,7 @@ stops [] t = refl
 stops (v ∷ vs) t = refl
 
 pub read_fields_lem : (vs : List ℤ) (t : List ℕ) → AllShort vs
-    → read_fields (length vs) (fields_text vs ++ t) ≡ record { numbers = vs; ending = After (length (fields_text vs)) }
+    → read_fields (length vs) (fields_text vs ++ t) ≡ record { numbers = vs; ending = Some (length (fields_text vs)) }
 unfolding fields_text read_fields begins
 read_fields_lem [] t h = refl
 read_fields_lem (v ∷ vs) t h =
@@ -103,51 +99,51 @@ read_fields_lem (v ∷ vs) t h =
 
 -- ---- what was read is what is written
 
-pub fields_read : (n : ℕ) (l : List ℕ) (c : ℕ) → (read_fields n l).ending ≡ After c → FieldsOf n l (read_fields n l).numbers c
+pub fields_read : (n : ℕ) (l : List ℕ) (c : ℕ) → (read_fields n l).ending ≡ Some c → FieldsOf n l (read_fields n l).numbers c
 unfolding read_fields fields_text
 fields_read zero l c e = go (test (begins NEWLINE l))
   where
     go : Test (begins NEWLINE l) → FieldsOf zero l (read_fields zero l).numbers c
-    go (no! z) = absurd (let w : Faulty ≡ After c = rw z at e in let q : ◌≡◌ {A = ℕ} 0 1 = cc in omega arith)
+    go (no! z) = none_some (rw z at e)
     go (yes! z) =
-        let w : After 1 ≡ After c = rw z at e in
-        let ec : 1 ≡ c = cc in
+        let ec : 1 ≡ c = some_is (rw z at e) in
         rw (z, ← ec) (record { many = refl; short = tt; counted = refl; text = begins_split NEWLINE l z })
 fields_read (suc n) l c e = go (read_field l) refl e (fields_read n)
   where
-    go : (f : Number) → read_field l ≡ f → (field_then (read_fields n) l f).ending ≡ After c
-        → ((m : List ℕ) (d : ℕ) → (read_fields n m).ending ≡ After d → FieldsOf n m (read_fields n m).numbers d)
+    go : (f : Option Number) → read_field l ≡ f → (field_then (read_fields n) l f).ending ≡ Some c
+        → ((m : List ℕ) (d : ℕ) → (read_fields n m).ending ≡ Some d → FieldsOf n m (read_fields n m).numbers d)
         → FieldsOf (suc n) l (field_then (read_fields n) l f).numbers c
-    go NoNumber p q ih = absurd (let z : ◌≡◌ {A = ℕ} 0 1 = cc in omega arith)
-    go (Value v d) p q ih = more (read_fields n (drop d l)).ending refl q
+    go None p q ih = none_some q
+    go (Some x) p q ih = more (read_fields n (drop x.count l)).ending refl q
       where
-        more : (end : Ending) → (read_fields n (drop d l)).ending ≡ end → further d end ≡ After c
-            → FieldsOf (suc n) l (v ∷ (read_fields n (drop d l)).numbers) c
-        more Faulty a b = absurd (let z : ◌≡◌ {A = ℕ} 0 1 = cc in omega arith)
-        more (After x) a b =
-            let ec : d + x ≡ c = cc in
-            let h = field_read l v d p in
-            let r = ih (drop d l) x a in
-            let ws = (read_fields n (drop d l)).numbers in
+        more : (end : Option ℕ) → (read_fields n (drop x.count l)).ending ≡ end → further x.count end ≡ Some c
+            → FieldsOf (suc n) l (x.value ∷ (read_fields n (drop x.count l)).numbers) c
+        more None a b = none_some b
+        more (Some d) a b =
+            let ec : x.count + d ≡ c = some_is b in
+            let h = field_read l x p in
+            let r = ih (drop x.count l) d a in
+            let ws = (read_fields n (drop x.count l)).numbers in
             rw (← ec)
             (record {
               many = ap suc r.many;
               short = (h.short, r.short);
-              counted = omega (arith, h.counted, r.counted, length-append (decimal v) (fields_text ws));
+              counted = omega (arith, h.counted, r.counted, length-append (decimal x.value) (fields_text ws));
               text = h.text
-                  ∙ ap (λ (m : List ℕ). TAB ∷ (decimal v ++ m)) (r.text ∙ ap (λ (m : List ℕ). fields_text ws ++ m) (drop-drop x d l))
-                  ∙ ap (λ (m : List ℕ). TAB ∷ m) (sym (append_assoc (decimal v) (fields_text ws) (drop (d + x) l)));
+                  ∙ ap (λ (m : List ℕ). TAB ∷ (decimal x.value ++ m))
+                  (r.text ∙ ap (λ (m : List ℕ). fields_text ws ++ m) (drop-drop d x.count l))
+                  ∙ ap (λ (m : List ℕ). TAB ∷ m) (sym (append_assoc (decimal x.value) (fields_text ws) (drop (x.count + d) l)));
             })
 
 -- ---- both
 
 pub fields_exactly : (n : ℕ) (l : List ℕ) (vs : List ℤ) (c : ℕ)
-    → (read_fields n l ≡ record { numbers = vs; ending = After c }) ↔ FieldsOf n l vs c
+    → (read_fields n l ≡ record { numbers = vs; ending = Some c }) ↔ FieldsOf n l vs c
 fields_exactly n l vs c = (
   λ e. rw (ap (λ (f : Fields). f.numbers) e) at (fields_read n l c (ap (λ (f : Fields). f.ending) e)),
   λ h.
       ap (read_fields n) h.text
       ∙ ap (λ (k : ℕ). read_fields k (fields_text vs ++ drop c l)) (sym h.many)
       ∙ read_fields_lem vs (drop c l) h.short
-      ∙ ap (λ (k : ℕ). record { numbers = vs; ending = After k }) (sym h.counted),
+      ∙ ap (λ (k : ℕ). record { numbers = vs; ending = Some k }) (sym h.counted),
 )

@@ -3,20 +3,18 @@ use mathlib.Core.Path.{◌≡◌, refl, sym, ap, ◌∙◌}
 use mathlib.Core.Bool.{Bool, true, false, not, ◌||◌}
 use mathlib.Core.List.{List, [], ◌∷◌, ◌++◌}
 use mathlib.Core.Logic.{◌↔◌}
+use Rattle.std.specs.Prelude.{Option, Some, None}
 use Prim.Native.Nat.{ℕ, zero, suc, ◌+◌, ◌^◌, ◌≤◌, ◌<◌}
 use native.Mathlib.Numerals.{add-one}
 use native.Mathlib.Omega.{arith}
 use lib.Dec.{eqb}
 use lib.IntN.{ℤ, pos, negsuc}
-use lib.ListN.{length, take, drop, take-append-drop, length-drop}
+use lib.ListN.{length, take, drop, take-append-drop}
 use lib.Seq.{take_at, length-take-le}
 use borrow.Author.Tests.{lt-ltb, le-leb, eqb-true}
 use Rattle.text.specs.Ascii.{MINUS, ZERO}
-use Rattle.text.specs.Number.{digits, decimal, Short, begins, run, value, allowed, magnitude, plain, negated, read_number, NumberOf}
-use Rattle.text.specs.declared.number.Magnitude.{Magnitude}
-use Rattle.text.specs.declared.number.Magnitude.TheVariants.{Digits, NoDigits}
-use Rattle.text.specs.declared.number.Number.TheVariants.{Value}
-use Rattle.text.proofs.Tests.{Test, yes!, no!, test, false_is_true, Below, small, large, below}
+use Rattle.text.specs.Number.{digits, decimal, Short, begins, run, value, allowed, magnitude, plain, negated, read_number, NumberOf, Magnitude, Number}
+use Rattle.text.proofs.Tests.{Test, yes!, no!, test, some_is, none_some, false_is_true, Below, small, large, below}
 use Rattle.text.proofs.Digits.{count_one, count_some, count_le, below_pow, no_zero, no_minus}
 use Rattle.text.proofs.Scan.{at_most_ten, run_le, run_after, run_digits, value_digits, digits_read}
 
@@ -24,10 +22,6 @@ pub begins_split : (b : ℕ) (l : List ℕ) → begins b l ≡ true → l ≡ b 
 unfolding begins
 begins_split b [] e = false_is_true e
 begins_split b (x ∷ l) e = ap (λ (y : ℕ). y ∷ l) (eqb-true x b e)
-
-pub begins_inside : (b : ℕ) (s : List ℕ) (at : ℕ) → begins b (drop at s) ≡ true → at < length s
-begins_inside b s at e =
-    omega (arith, ap length (begins_split b (drop at s) e), length-drop at s)
 
 -- ---- reading what was written
 
@@ -43,42 +37,46 @@ allowed_digits n t h =
     go (small k) = rw (count_one n k)
     go (large k) = rw (no_zero n t (omega arith)) (or_true (eqb (length (digits n)) 1))
 
-read_digits : (n : ℕ) (t : List ℕ) → n < 10 ^ 10 → run t ≡ 0 → magnitude (digits n ++ t) ≡ Digits n (length (digits n))
+read_digits : (n : ℕ) (t : List ℕ) → n < 10 ^ 10 → run t ≡ 0
+    → magnitude (digits n ++ t) ≡ Some (record { value = n; count = length (digits n) })
 unfolding magnitude
 read_digits n t h s =
     let r : run (digits n ++ t) ≡ length (digits n) = omega (arith, run_digits n t) in
     rw (r, allowed_digits n t h, take_at (digits n) t (length (digits n)) refl, value_digits n)
 
-pub read_decimal : (v : ℤ) (t : List ℕ) → Short v → run t ≡ 0 → read_number (decimal v ++ t) ≡ Value v (length (decimal v))
+abbrev pub number : ℤ → ℕ → Option Number
+number v count = Some (record { value = v; count = count })
+
+pub read_decimal : (v : ℤ) (t : List ℕ) → Short v → run t ≡ 0 → read_number (decimal v ++ t) ≡ number v (length (decimal v))
 unfolding read_number decimal begins
 read_decimal (pos n) t h s = rw (no_minus n t, read_digits n t h s)
-read_decimal (negsuc n) t h s = rw (read_digits (suc n) t h s) (ap (Value (negsuc n)) (add-one (length (digits (suc n)))))
+read_decimal (negsuc n) t h s = rw (read_digits (suc n) t h s) (ap (number (negsuc n)) (add-one (length (digits (suc n)))))
 
 -- ---- what was read is what is written
 
-digits_found : (l : List ℕ) (n c : ℕ) → magnitude l ≡ Digits n c → NumberOf l (pos n) c
+digits_found : (l : List ℕ) (m : Magnitude) → magnitude l ≡ Some m → NumberOf l (pos m.value) m.count
 unfolding magnitude decimal
-digits_found l n c e = go (test (allowed (run l) (begins ZERO l)))
+digits_found l m e = go (test (allowed (run l) (begins ZERO l)))
   where
-    go : Test (allowed (run l) (begins ZERO l)) → NumberOf l (pos n) c
-    go (no! a) = absurd (let w : NoDigits ≡ Digits n c = rw a at e in let q : ◌≡◌ {A = ℕ} 0 1 = cc in omega arith)
+    go : Test (allowed (run l) (begins ZERO l)) → NumberOf l (pos m.value) m.count
+    go (no! a) = none_some (rw a at e)
     go (yes! a) =
-        let w : Digits (value 0 (take (run l) l)) (run l) ≡ Digits n c = rw a at e in
-        let en : value 0 (take (run l) l) ≡ n = cc in
-        let ec : run l ≡ c = cc in
-        let t : digits n ≡ take c l = rw (en, ec) at (digits_read l a) in
-        let long : c ≡ length (digits n) = sym (ap length t ∙ length-take-le c l (rw ec at (run_le l))) in
+        let w : ◌≡◌ {A = Magnitude} (record { value = value 0 (take (run l) l); count = run l }) m = some_is (rw a at e) in
+        let en : value 0 (take (run l) l) ≡ m.value = ap (λ (x : Magnitude). x.value) w in
+        let ec : run l ≡ m.count = ap (λ (x : Magnitude). x.count) w in
+        let t : digits m.value ≡ take m.count l = rw (en, ec) at (digits_read l a) in
+        let long : m.count ≡ length (digits m.value) = sym (ap length t ∙ length-take-le m.count l (rw ec at (run_le l))) in
         let ten : run l ≤ 10 = at_most_ten (run l) (begins ZERO l) a in
         record {
-          short = below_pow 9 n (omega (arith, long, ec, ten));
+          short = below_pow 9 m.value (omega (arith, long, ec, ten));
           counted = long;
-          text = sym (take-append-drop c l) ∙ ap (λ (m : List ℕ). m ++ drop c l) (sym t);
+          text = sym (take-append-drop m.count l) ∙ ap (λ (x : List ℕ). x ++ drop m.count l) (sym t);
           stops = rw ec at (run_after l);
         }
 
-pub digits_bounds : (l : List ℕ) (n c : ℕ) → magnitude l ≡ Digits n c → (n < 10 ^ 10) × (c ≤ 10)
+pub digits_bounds : (l : List ℕ) (m : Magnitude) → magnitude l ≡ Some m → (m.value < 10 ^ 10) × (m.count ≤ 10)
 unfolding decimal
-digits_bounds l n c e = let h = digits_found l n c e in (h.short, omega (arith, h.counted, count_le 9 n h.short))
+digits_bounds l m e = let h = digits_found l m e in (h.short, omega (arith, h.counted, count_le 9 m.value h.short))
 
 after_minus : (l : List ℕ) (n c : ℕ) → NumberOf l (pos (suc n)) c → NumberOf (MINUS ∷ l) (negsuc n) (c + 1)
 unfolding decimal
@@ -91,33 +89,30 @@ after_minus l n c h =
       stops = h.stops;
     })
 
-plain_found : (l : List ℕ) (v : ℤ) (c : ℕ) (m : Magnitude) → magnitude l ≡ m → plain m ≡ Value v c → NumberOf l v c
-plain_found l v c NoDigits e f = absurd (let q : ◌≡◌ {A = ℕ} 0 1 = cc in omega arith)
-plain_found l v c (Digits n k) e f =
-    let ev : pos n ≡ v = cc in
-    let ec : k ≡ c = cc in
-    rw (← ev, ← ec) (digits_found l n k e)
+plain_found : (l : List ℕ) (n : Number) (m : Option Magnitude) → magnitude l ≡ m → plain m ≡ Some n → NumberOf l n.value n.count
+plain_found l n None e f = none_some f
+plain_found l n (Some m) e f = rw (← some_is f) (digits_found l m e)
 
-negated_found : (l : List ℕ) (v : ℤ) (c : ℕ) (m : Magnitude) → magnitude l ≡ m → negated m ≡ Value v c → NumberOf (MINUS ∷ l) v c
-negated_found l v c NoDigits e f = absurd (let q : ◌≡◌ {A = ℕ} 0 1 = cc in omega arith)
-negated_found l v c (Digits zero k) e f = absurd (let q : ◌≡◌ {A = ℕ} 0 1 = cc in omega arith)
-negated_found l v c (Digits (suc n) k) e f =
-    let ev : negsuc n ≡ v = cc in
-    let ec : k + 1 ≡ c = cc in
-    rw (← ev, ← ec) (after_minus l n k (digits_found l (suc n) k e))
-
-pub decimal_read : (l : List ℕ) (v : ℤ) (c : ℕ) → read_number l ≡ Value v c → NumberOf l v c
-unfolding read_number
-decimal_read l v c e = go (test (begins MINUS l))
+negated_found : (l : List ℕ) (n : Number) (m : Option Magnitude) → magnitude l ≡ m → negated m ≡ Some n → NumberOf (MINUS ∷ l) n.value n.count
+negated_found l n None e f = none_some f
+negated_found l n (Some m) e f = go m.value m.count (digits_found l m e) f
   where
-    go : Test (begins MINUS l) → NumberOf l v c
-    go (no! z) = plain_found l v c (magnitude l) refl (rw z at e)
-    go (yes! z) = rw (begins_split MINUS l z) (negated_found (drop 1 l) v c (magnitude (drop 1 l)) refl (rw z at e))
+    go : (k c : ℕ) → NumberOf l (pos k) c → negated (Some (record { value = k; count = c })) ≡ Some n → NumberOf (MINUS ∷ l) n.value n.count
+    go zero c h f = none_some f
+    go (suc k) c h f = rw (← some_is f) (after_minus l k c h)
+
+pub decimal_read : (l : List ℕ) (n : Number) → read_number l ≡ Some n → NumberOf l n.value n.count
+unfolding read_number
+decimal_read l n e = go (test (begins MINUS l))
+  where
+    go : Test (begins MINUS l) → NumberOf l n.value n.count
+    go (no! z) = plain_found l n (magnitude l) refl (rw z at e)
+    go (yes! z) = rw (begins_split MINUS l z) (negated_found (drop 1 l) n (magnitude (drop 1 l)) refl (rw z at e))
 
 -- ---- both
 
-pub number_exactly : (l : List ℕ) (v : ℤ) (c : ℕ) → (read_number l ≡ Value v c) ↔ NumberOf l v c
+pub number_exactly : (l : List ℕ) (v : ℤ) (c : ℕ) → (read_number l ≡ Some (record { value = v; count = c })) ↔ NumberOf l v c
 number_exactly l v c = (
-  decimal_read l v c,
-  λ h. ap read_number h.text ∙ read_decimal v (drop c l) h.short h.stops ∙ ap (Value v) (sym h.counted),
+  decimal_read l (record { value = v; count = c }),
+  λ h. ap read_number h.text ∙ read_decimal v (drop c l) h.short h.stops ∙ ap (number v) (sym h.counted),
 )

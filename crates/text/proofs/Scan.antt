@@ -1,72 +1,63 @@
 -- The digits that a text begins with: how many they are and what number they say, of any text and of the digits of a number.
 use mathlib.Core.Path.{◌≡◌, refl, sym, ap, ◌∙◌}
-use mathlib.Core.Bool.{Bool, true, false, not, ◌&&◌, ◌||◌}
+use mathlib.Core.Bool.{Bool, true, not, ◌&&◌, ◌||◌}
 use mathlib.Core.List.{List, [], ◌∷◌, ◌++◌, append_assoc, append-nil}
-use Prim.Native.Nat.{ℕ, suc, ◌+◌, ◌-◌, ◌*◌, ◌/◌, ◌%◌, ◌≤◌, ◌<◌, zero-le}
-use native.Mathlib.Numerals.{add-one}
+use Prim.Native.Nat.{ℕ, zero, suc, ◌+◌, ◌-◌, ◌*◌, ◌/◌, ◌%◌, ◌≤◌, ◌<◌}
 use native.Mathlib.Omega.{arith}
-use lib.ListN.{length, take, drop, get_or, drop_of_length-le}
-use lib.Seq.{drop-cons}
+use lib.ListN.{length, take, drop, get_or}
 use lib.Dec.{ltb, leb, eqb}
 use borrow.Author.Tests.{le-leb, leb-true, eqb-true, eqb-false}
+use Rattle.std.specs.Char.{is_ascii_digit}
+use Rattle.std.specs.List.{prefix_len}
+use Rattle.std.proofs.lemmas.List.Sums.{prefix_len-le-length}
 use Rattle.text.specs.Ascii.{ZERO, NINE}
-use Rattle.text.specs.Number.{digits, begins, digit, begins_digit, run, value, allowed}
-use Rattle.text.proofs.Tests.{Test, yes!, no!, test, false_is_true, both, Below, small, large, below}
+use Rattle.text.specs.Number.{digits, begins, digit, run, value, allowed}
+use Rattle.text.proofs.Tests.{Test, yes!, no!, test, false_is_true, both}
 use Rattle.text.proofs.Digits.{digits_one, digits_last, digits_then, by_digits, count_more}
 
--- ---- a digit at a place of a text
+-- ---- a digit among those that a text begins with
 
-module _ (s : List ℕ) (i : ℕ) where
-  pub here : i < length s → drop i s ≡ get_or s i 0 ∷ drop (i + 1) s
-  here h = rw (add-one i) (drop-cons s i 0 h)
+pub record DigitAt (l : List ℕ) (i : ℕ) : Type 0 where
+  pub low : ZERO ≤ get_or l i 0
+  pub high : get_or l i 0 ≤ NINE
 
-  pub record DigitAt : Type 0 where
-    pub inside : i < length s
-    pub low : ZERO ≤ get_or s i 0
-    pub high : get_or s i 0 ≤ NINE
-    pub split : drop i s ≡ get_or s i 0 ∷ drop (i + 1) s
-    pub counts : run (drop i s) ≡ suc (run (drop (i + 1) s))
-
-  pub digit_at : begins_digit (drop i s) ≡ true → DigitAt
-  unfolding begins_digit run
-  digit_at e = go (below i (length s))
-    where
-      go : Below i (length s) → DigitAt
-      go (large h) = false_is_true (rw (drop_of_length-le s h) at e)
-      go (small h) =
-          let f : digit (get_or s i 0) ≡ true = rw (here h) at e in
-          let d = both _ _ f in
-          record { inside = h; low = leb-true ZERO _ d.0; high = leb-true _ NINE d.1; split = here h; counts = rw (here h, f) }
-
-  pub no_digit : begins_digit (drop i s) ≡ false → run (drop i s) ≡ 0
-  unfolding begins_digit run
-  no_digit = none (drop i s)
-    where
-      none : (l : List ℕ) → begins_digit l ≡ false → run l ≡ 0
-      none [] e = refl
-      none (b ∷ t) e = rw e
-
-  pub run_at : 0 < run (drop i s) → DigitAt
-  run_at h = go (test (begins_digit (drop i s)))
-    where
-      go : Test (begins_digit (drop i s)) → DigitAt
-      go (yes! e) = digit_at e
-      go (no! e) = absurd (omega (arith, no_digit e))
-
-  pub value_at : (k v : ℕ) → DigitAt → value v (take (suc k) (drop i s)) ≡ value (v * 10 + (get_or s i 0 - ZERO)) (take k (drop (i + 1) s))
-  unfolding value
-  value_at k v d = rw d.split
+pub digit_at : (l : List ℕ) (i : ℕ) → i < run l → DigitAt l i
+unfolding run
+digit_at [] i h = absurd (omega arith)
+digit_at (b ∷ t) i h = go (test (digit b)) i h (digit_at t)
+  where
+    go : Test (digit b) → (i : ℕ) → i < run (b ∷ t) → ((j : ℕ) → j < run t → DigitAt t j) → DigitAt (b ∷ t) i
+    go (no! e) i h r = absurd (let z : i < 0 = rw e at h in omega arith)
+    go (yes! e) zero h r = let d = both _ _ e in record { low = leb-true ZERO _ d.0; high = leb-true _ NINE d.1 }
+    go (yes! e) (suc i) h r =
+        let z : suc i < suc (run t) = rw e at h in
+        let d = r i (omega arith) in
+        record { low = d.low; high = d.high }
 
 -- ---- how many
 
-pub run_le : (l : List ℕ) → run l ≤ length l
+-- the digits are those in front that pass the library's test
+pub prefix_is : (l : List ℕ) → prefix_len is_ascii_digit l ≡ run l
 unfolding run
-run_le [] = zero-le
-run_le (b ∷ t) = go (test (digit b)) (run_le t)
+prefix_is [] = refl
+prefix_is (b ∷ t) = go (test (digit b)) (prefix_is t)
   where
-    go : Test (digit b) → run t ≤ length t → run (b ∷ t) ≤ suc (length t)
-    go (yes! e) h = rw e (omega arith)
-    go (no! e) h = rw e (omega arith)
+    go : Test (digit b) → prefix_len is_ascii_digit t ≡ run t → prefix_len is_ascii_digit (b ∷ t) ≡ run (b ∷ t)
+    go (yes! e) h = rw (e, h) (omega arith)
+    go (no! e) h = rw e
+
+pub run_le : (l : List ℕ) → run l ≤ length l
+run_le l = omega (arith, prefix_is l, prefix_len-le-length is_ascii_digit l)
+
+-- the digits alone are all digits
+pub run_alone : (l : List ℕ) → run (take (run l) l) ≡ run l
+unfolding run
+run_alone [] = refl
+run_alone (b ∷ t) = go (test (digit b)) (run_alone t)
+  where
+    go : Test (digit b) → run (take (run t) t) ≡ run t → run (take (run (b ∷ t)) (b ∷ t)) ≡ run (b ∷ t)
+    go (yes! e) h = rw (e, e) (ap suc h)
+    go (no! e) h = rw e
 
 pub run_after : (l : List ℕ) → run (drop (run l) l) ≡ 0
 unfolding run

@@ -1,6 +1,7 @@
 -- A test taken apart: it is true or false, and `a && b` is true where both are.
 use mathlib.Core.Path.{◌≡◌, refl}
 use mathlib.Core.Bool.{Bool, true, false, cond, ◌&&◌}
+use Rattle.std.specs.Prelude.{Option, Some, None}
 use Prim.Native.Nat.{ℕ, ◌<◌, ◌≤◌}
 use native.Mathlib.Omega.{arith}
 use lib.Dec.{ltb}
@@ -16,6 +17,13 @@ test false = no! refl
 
 pub false_is_true : {A : Type 0} → ◌≡◌ {A = Bool} false true → A
 false_is_true e = absurd (let q : ◌≡◌ {A = ℕ} 0 1 = cc in omega arith)
+
+-- two results that are there are equal where what they hold is, and none is not one
+pub some_is : {A : Type 0} {x y : A} → ◌≡◌ {A = Option A} (Some x) (Some y) → x ≡ y
+some_is e = cc
+
+pub none_some : {A B : Type 0} {x : A} → ◌≡◌ {A = Option A} None (Some x) → B
+none_some e = absurd (cc)
 
 pub both : (a b : Bool) → (a && b) ≡ true → (a ≡ true) × (b ≡ true)
 both true b e = (refl, e)

@@ -1,11 +1,7 @@
 -- Fields of numbers, parted by tabs and ended by a newline (docs/RULES.md, "Mark lines"), for every count of them.
-use Rattle.std.specs.Prelude.{◌≡◌, cond, List, [], ◌∷◌, ◌++◌, ℕ, zero, suc, ◌+◌, ℤ, length, drop}
+use Rattle.std.specs.Prelude.{◌≡◌, cond, Option, Some, None, List, [], ◌∷◌, ◌++◌, ℕ, zero, suc, ◌+◌, ℤ, length, drop}
 use Rattle.text.specs.Ascii.{TAB, NEWLINE}
-use Rattle.text.specs.Number.{decimal, Short, begins, read_number}
-use Rattle.text.specs.declared.number.Number.{Number}
-use Rattle.text.specs.declared.number.Number.TheVariants.{Value, NoNumber}
-use Rattle.text.specs.declared.fields.Ending.{Ending}
-use Rattle.text.specs.declared.fields.Ending.TheVariants.{After, Faulty}
+use Rattle.text.specs.Number.{decimal, Short, begins, read_number, Number}
 
 -- ---- writing
 
@@ -28,34 +24,34 @@ AllShort (v ∷ vs) = Short v × AllShort vs
 -- ---- reading
 
 -- a tab and a number; the count is that of both
-abbrev pub after_tab : Number → Number
-after_tab (Value v count) = Value v (count + 1)
-after_tab NoNumber = NoNumber
+abbrev pub after_tab : Option Number → Option Number
+after_tab (Some n) = Some (record { value = n.value; count = n.count + 1 })
+after_tab None = None
 
-unfoldable pub read_field : List ℕ → Number
-read_field l = cond (begins TAB l) (after_tab (read_number (drop 1 l))) NoNumber
+unfoldable pub read_field : List ℕ → Option Number
+read_field l = cond (begins TAB l) (after_tab (read_number (drop 1 l))) None
 
--- the numbers that were read before a fault or the end, and how it ended
+-- the numbers that were read before a fault or the end, and how many bytes they and the newline take: none where there is a fault
 pub record Fields : Type 0 where
   pub numbers : List ℤ
-  pub ending : Ending
+  pub ending : Option ℕ
 
 abbrev pub ended : Fields
-ended = record { numbers = []; ending = After 1 }
+ended = record { numbers = []; ending = Some 1 }
 
 abbrev pub fault : Fields
-fault = record { numbers = []; ending = Faulty }
+fault = record { numbers = []; ending = None }
 
 -- the end is so many bytes further on
-abbrev pub further : ℕ → Ending → Ending
-further count (After more) = After (count + more)
-further count Faulty = Faulty
+abbrev pub further : ℕ → Option ℕ → Option ℕ
+further count (Some more) = Some (count + more)
+further count None = None
 
 -- a field at the front of l, and what `rest` reads behind it
-abbrev pub field_then : (List ℕ → Fields) → List ℕ → Number → Fields
-field_then rest l (Value v count) =
-    record { numbers = v ∷ (rest (drop count l)).numbers; ending = further count (rest (drop count l)).ending }
-field_then rest l NoNumber = fault
+abbrev pub field_then : (List ℕ → Fields) → List ℕ → Option Number → Fields
+field_then rest l (Some n) =
+    record { numbers = n.value ∷ (rest (drop n.count l)).numbers; ending = further n.count (rest (drop n.count l)).ending }
+field_then rest l None = fault
 
 -- n fields and a newline
 unfoldable pub read_fields : ℕ → List ℕ → Fields

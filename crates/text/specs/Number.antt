@@ -1,11 +1,8 @@
 -- Decimal numbers as text (docs/RULES.md, "Mark lines"): no plus, no leading zero, no -0, at most ten digits.
 -- First the text of a number, then reading one at the front of a text, then what it is that a text begins with a number.
-use Rattle.std.specs.Prelude.{◌≡◌, Bool, false, cond, not, ◌&&◌, ◌||◌, List, [], ◌∷◌, ◌++◌, ℕ, zero, suc, ◌+◌, ◌-◌, ◌*◌, ◌/◌, ◌%◌, ◌^◌, ◌<◌, ltb, leb, eqb, ℤ, pos, negsuc, nat_abs, length, take, drop}
+use Rattle.std.specs.Prelude.{◌≡◌, Bool, false, cond, not, ◌&&◌, ◌||◌, Option, Some, None, List, [], ◌∷◌, ◌++◌, ℕ, zero, suc, ◌+◌, ◌-◌, ◌*◌, ◌/◌, ◌%◌, ◌^◌, ◌<◌, ltb, leb, eqb, ℤ, pos, negsuc, nat_abs, length, take, drop}
 use Rattle.text.specs.Ascii.{MINUS, ZERO, NINE}
-use Rattle.text.specs.declared.number.Magnitude.{Magnitude}
-use Rattle.text.specs.declared.number.Magnitude.TheVariants.{Digits, NoDigits}
-use Rattle.text.specs.declared.number.Number.{Number}
-use Rattle.text.specs.declared.number.Number.TheVariants.{Value, NoNumber}
+use Rattle.text.specs.declared.number.Parsed.{Parsed}
 
 -- ---- writing
 
@@ -28,6 +25,13 @@ abbrev pub Short : ℤ → Type 0
 Short v = nat_abs v < 10 ^ 10
 
 -- ---- reading
+
+-- a number, and how many bytes its text takes; of the digits alone, the number that they say
+abbrev pub Number : Type 0
+Number = Parsed ℤ
+
+abbrev pub Magnitude : Type 0
+Magnitude = Parsed ℕ
 
 -- the text begins with the byte b
 unfoldable pub begins : ℕ → List ℕ → Bool
@@ -55,21 +59,24 @@ value a (b ∷ l) = value (a * 10 + (b - ZERO)) l
 abbrev pub allowed : ℕ → Bool → Bool
 allowed count zeroFirst = ltb 0 count && leb count 10 && (eqb count 1 || not zeroFirst)
 
-unfoldable pub magnitude : List ℕ → Magnitude
-magnitude l = cond (allowed (run l) (begins ZERO l)) (Digits (value 0 (take (run l) l)) (run l)) NoDigits
+unfoldable pub magnitude : List ℕ → Option Magnitude
+magnitude l = cond (allowed (run l) (begins ZERO l)) (Some (record { value = value 0 (take (run l) l); count = run l })) None
 
 -- the digits with no minus before them, and with one: there is no -0
-abbrev pub plain : Magnitude → Number
-plain (Digits n count) = Value (pos n) count
-plain NoDigits = NoNumber
+abbrev pub plain : Option Magnitude → Option Number
+plain (Some m) = Some (record { value = pos m.value; count = m.count })
+plain None = None
 
-abbrev pub negated : Magnitude → Number
-negated (Digits zero count) = NoNumber
-negated (Digits (suc n) count) = Value (negsuc n) (count + 1)
-negated NoDigits = NoNumber
+abbrev minus : ℕ → ℕ → Option Number
+minus zero count = None
+minus (suc n) count = Some (record { value = negsuc n; count = count + 1 })
+
+abbrev pub negated : Option Magnitude → Option Number
+negated (Some m) = minus m.value m.count
+negated None = None
 
 -- the number at the front of the text
-unfoldable pub read_number : List ℕ → Number
+unfoldable pub read_number : List ℕ → Option Number
 read_number l = cond (begins MINUS l) (negated (magnitude (drop 1 l))) (plain (magnitude l))
 
 -- ---- what reading has to do with writing

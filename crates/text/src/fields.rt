@@ -1,59 +1,48 @@
 // The numbers of a line: each after a tab, and a newline at the end.
 ghost use Rattle.std.specs.Prelude.{◌≡◌, ◌+◌, ◌*◌, ◌≤◌, ◌^◌, length, drop};
 ghost use Rattle.std.proofs.lemmas.List.Edits.{sets};
+ghost use Rattle.text.specs.Number.{decimal};
 ghost use Rattle.text.specs.Fields.{fields_text, read_field, read_fields};
 
-use crate::number::{Number, has_byte, number_length, read_number, write_number};
-use crate::{NEWLINE, TAB};
+use crate::number::{Number, begins, number_length, read_number, write_number};
+use crate::{NEWLINE, TAB, rest};
 
-// How many bytes the fields and their newline take, or that something else stands there.
-#[derive(Clone, Copy)]
-pub enum Ending {
-    After(usize),
-    Faulty,
-}
-
-// Reads a tab and a number at `at`; the count is that of both.
-fn read_field(s: &[u8], at: usize) -> Number
-    ensures { result ≡ read_field (drop at s.now) }
+// Reads a tab and a number at the front; the count is that of both.
+fn read_field(s: &[u8]) -> Option<Number>
+    ensures { result ≡ read_field s.now }
 {
-    if has_byte(s, at, TAB) {
-        let n = read_number(s, at + 1);
-        return match n {
-            Number::Value { value, count } => Number::Value {
-                value,
-                count: count + 1,
-            },
-            Number::NoNumber => Number::NoNumber,
-        };
+    if !begins(s, TAB) {
+        return None;
     }
-    Number::NoNumber
+    let n = read_number(s, 1)?;
+    Some(Number {
+        value: n.value,
+        count: n.count + 1,
+    })
 }
 
-// Reads as many fields as `out` holds numbers, and the newline after them. What was read before a fault is in `out` too.
-pub fn read_fields(s: &[u8], at: usize, out: &mut [i64]) -> Ending
+// Reads as many fields as `out` holds numbers, and the newline after them: how many bytes they take, or None where something
+// else stands there. What was read before a fault is in `out` too. Read at a place, as callers have it.
+pub fn read_fields(s: &[u8], at: usize, out: &mut [i64]) -> Option<usize>
     ensures value { result ≡ (read_fields (length out.old) (drop at s.now)).ending }
     ensures out_after { out.new ≡ sets out.old 0 (read_fields (length out.old) (drop at s.now)).numbers }
 {
-    let mut p = at;
-    let mut i = 0;
-    while i < out.len() {
-        let n = read_field(s, p);
-        match n {
-            Number::Value { value, count } => {
-                out[i] = value;
-                p = p + count;
-                i += 1;
-            }
-            Number::NoNumber => {
-                return Ending::Faulty;
-            }
-        }
+    let text = rest(s, at);
+    let mut count = 0;
+    for v in out {
+        let n = read_field(rest(text, count))?;
+        *v = n.value;
+        count += n.count;
     }
-    if has_byte(s, p, NEWLINE) {
-        return Ending::After(p + 1 - at);
-    }
-    Ending::Faulty
+    begins(rest(text, count), NEWLINE).then_some(count + 1)
+}
+
+// How many bytes a tab and the text of `v` take.
+fn field_length(v: &i64) -> usize
+    ensures value { result ≡ 1 + length (decimal v.now) }
+    ensures upper_bound { result ≤ 21 }
+{
+    1 + number_length(*v)
 }
 
 // How many bytes the text of the numbers takes. The bound on their count keeps the sum from wrapping.
@@ -62,13 +51,7 @@ pub fn fields_length(vs: &[i64]) -> usize
     ensures value { result ≡ length (fields_text vs.now) }
     ensures upper_bound { result ≤ 21 * length vs.now + 1 }
 {
-    let mut n = 0;
-    let mut i = 0;
-    while i < vs.len() {
-        n = n + 1 + number_length(vs[i]);
-        i += 1;
-    }
-    n + 1
+    vs.iter().map(field_length).sum::<usize>() + 1
 }
 
 // Writes the text of the numbers at `at`, and returns the place after it.
@@ -78,11 +61,9 @@ pub fn write_fields(out: &mut [u8], at: usize, vs: &[i64]) -> usize
     ensures out_after { out.new ≡ sets out.old at (fields_text vs.now) }
 {
     let mut p = at;
-    let mut k = 0;
-    while k < vs.len() {
+    for v in vs {
         out[p] = TAB;
-        p = write_number(out, p + 1, vs[k]);
-        k += 1;
+        p = write_number(out, p + 1, *v);
     }
     out[p] = NEWLINE;
     p + 1

@@ -1,15 +1,22 @@
 // Decimal numbers and tab-parted fields, read at a place of a text and written into a lent buffer.
 #![tactic(auto)]
 
+ghost use Rattle.std.specs.Prelude.{◌≡◌, drop};
+
 pub mod fields;
 pub mod number;
 
-pub const TAB: u8 = 9;
+pub const TAB: u8 = b'\t';
 
-pub const NEWLINE: u8 = 10;
+pub const NEWLINE: u8 = b'\n';
 
-pub const MINUS: u8 = 45;
+pub const MINUS: u8 = b'-';
 
-pub const ZERO: u8 = 48;
+pub const ZERO: u8 = b'0';
 
-pub const NINE: u8 = 57;
+// What stands in `s` from `at` on: nothing, where `at` is beyond the end.
+pub fn rest(s: &[u8], at: usize) -> &[u8]
+    ensures { result.now ≡ drop at s.now }
+{
+    &s[at.min(s.len())..]
+}

@@ -1,4 +1,4 @@
-use Rattle.std.proofs.Common.{rules, ◌≡◌, refl, sym, ap, ◌∙◌, List, ◌∷◌, ◌++◌, ℕ, ◌+◌, ◌≤◌, ◌<◌, ℤ, pos, length, drop, set, get_or, length-append, length-set, add-one, arith, w64, SFits, to_z-of_z}
+use Rattle.std.proofs.Common.{rules, ◌≡◌, sym, ap, ◌∙◌, List, ◌∷◌, ◌++◌, ℕ, ◌+◌, ◌≤◌, ◌<◌, ℤ, pos, length, drop, set, get_or, length-append, length-set, add-one, arith, w64, SFits, to_z-of_z}
 use Rattle.std.proofs.lemmas.List.Edits.{sets}
 use lib.Seq.{length-sets}
 use Rattle.text.specs.Ascii.{TAB, NEWLINE}
@@ -37,34 +37,25 @@ module _ {o : List ℕ} {at : ℕ} {vs : List ℤ} {q : List ℕ} {p i : ℕ} (w
     ends : set q p NEWLINE ≡ sets o at (fields_text vs)
     ends = ap (sets q p) (sym (fields_none vs i h)) ∙ w.whole
 
-pub loop-k-init : goal.loop-k-init
-loop-k-init c = record { room = c.requires; same = refl; place = refl; whole = refl }
-
 pub bounds-out-p : goal.bounds-out-p
-bounds-out-p c = omega (arith, inside c.loop-k.invariant c.loop-k-test.true)
-
-pub overflow_add-p : goal.overflow_add-p
-overflow_add-p c = omega (arith, inside c.loop-k.invariant c.loop-k-test.true)
+bounds-out-p c = omega (arith, inside c.loop-v.invariant c.loop-v-test.true)
 
 pub write_number-p-requires : goal.write_number-p-requires
 write_number-p-requires c =
-    let f : SFits w64 (get_or c.args.vs.now c.loop-k.k (pos 0)) = search rules in
-    simp length-set (omega (arith, inside c.loop-k.invariant c.loop-k-test.true, ap (λ (z : ℤ). length (decimal z)) (to_z-of_z f)))
+    let f : SFits w64 (get_or c.args.vs.now c.loop-v.v-index (pos 0)) = search rules in
+    simp length-set (omega (arith, inside c.loop-v.invariant c.loop-v-test.true, ap (λ (z : ℤ). length (decimal z)) (to_z-of_z f)))
 
-pub loop-k-preserved : goal.loop-k-preserved
-loop-k-preserved c =
-    let f : SFits w64 (get_or c.args.vs.now c.loop-k.k (pos 0)) = search rules in
+pub loop-v-preserved : goal.loop-v-preserved
+loop-v-preserved c =
+    let f : SFits w64 (get_or c.args.vs.now c.loop-v.v-index (pos 0)) = search rules in
     let r = c.write_number-p.ensures in
-    more c.loop-k.invariant c.loop-k-test.true _ (to_z-of_z f) _ _ r.value r.out_after
+    more c.loop-v.invariant c.loop-v-test.true _ (to_z-of_z f) _ _ r.value r.out_after
 
 pub bounds-out-p-2 : goal.bounds-out-p-2
-bounds-out-p-2 c = omega (arith, last c.loop-k.invariant c.loop-k-test.false)
-
-pub overflow_add-result : goal.overflow_add-result
-overflow_add-result c = omega (arith, last c.loop-k.invariant c.loop-k-test.false)
+bounds-out-p-2 c = omega (arith, last c.loop-v.invariant c.loop-v-test.false)
 
 pub returns-clause-value : goal.returns-clause-value
-returns-clause-value c = last c.loop-k.invariant c.loop-k-test.false
+returns-clause-value c = last c.loop-v.invariant c.loop-v-test.false
 
 pub returns-clause-out_after : goal.returns-clause-out_after
-returns-clause-out_after c = ends c.loop-k.invariant c.loop-k-test.false
+returns-clause-out_after c = ends c.loop-v.invariant c.loop-v-test.false

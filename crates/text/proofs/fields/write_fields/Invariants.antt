@@ -1,5 +1,5 @@
 -- What is stored, and the fields still to come behind it, are the whole text.
-use Rattle.std.proofs.Common.{◌≡◌, List, ℕ, ◌+◌, ◌-◌, ◌≤◌, ℤ, length, drop}
+use Rattle.std.proofs.Common.{◌≡◌, List, ℕ, ◌+◌, ◌≤◌, ℤ, length, drop}
 use Rattle.std.proofs.lemmas.List.Edits.{sets}
 use Rattle.text.specs.Fields.{fields_text}
 use Rattle.text.proofs.fields.write_fields.Given as goal
@@ -11,8 +11,5 @@ pub record Writing (o : List ℕ) (at : ℕ) (vs : List ℤ) (q : List ℕ) (p i
   pub place : p + length (fields_text (drop i vs)) ≡ at + length (fields_text vs)
   pub whole : sets q p (fields_text (drop i vs)) ≡ sets o at (fields_text vs)
 
-abbrev pub invariant-loop-k : goal.invariant-loop-k
-invariant-loop-k l = Writing l.fn.out l.at l.vs l.out l.p l.k
-
-abbrev pub decreases-loop-k : goal.decreases-loop-k
-decreases-loop-k l = length l.vs - l.k
+abbrev pub invariant-loop-v : goal.invariant-loop-v
+invariant-loop-v l = Writing l.fn.out l.at l.vs l.out l.p l.v-index

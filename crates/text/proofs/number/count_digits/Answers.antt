@@ -1,18 +1,16 @@
-use Rattle.std.proofs.Common.{arith, sym, ◌∙◌}
-use Rattle.text.proofs.Scan.{DigitAt, digit_at, no_digit}
+use Rattle.std.proofs.Common.{rules, tests, ◌∙◌}
+use Rattle.std.proofs.lemmas.Iterator.{YieldsList-from_slice}
+use Rattle.std.proofs.lemmas.Iterator.Consumers.{count_from_yields_List}
+use Rattle.std.proofs.lemmas.Iterator.Search.{YieldsList-from_take_while}
+use Rattle.std.proofs.lemmas.List.Folds.{length-prefix_len}
+use Rattle.std.specs.Char.{is_ascii_digit}
+use Rattle.text.proofs.Scan.{prefix_is}
 use Rattle.text.proofs.number.count_digits.Goals as goal
 
-there : (c : goal.In-loop-i) → DigitAt c.args.s.now c.loop-i.i
-there c = digit_at _ _ (sym c.has_digit.ensures ∙ c.loop-i-test.true)
-
-pub overflow_add-i : goal.overflow_add-i
-overflow_add-i c = omega (arith, (there c).inside)
-
-pub loop-i-smaller : goal.loop-i-smaller
-loop-i-smaller c = omega (arith, (there c).inside)
-
-pub loop-i-preserved : goal.loop-i-preserved
-loop-i-preserved c = (omega arith, omega (arith, (there c).counts))
-
 pub returns : goal.returns
-returns c = omega (arith, no_digit c.args.s.now c.loop-i.i (sym c.has_digit.ensures ∙ c.loop-i-test.false))
+returns c =
+    let s = c.args.s.now in
+    let taken = c.take_while.ensures in
+    count_from_yields_List c.take_while.result _ c.count.ensures.ran
+    (YieldsList-from_take_while _ is_ascii_digit (YieldsList-from_slice s cc) taken.closure taken.done (λ x b q k. search (rules, tests)))
+    ∙ length-prefix_len is_ascii_digit s ∙ prefix_is s

@@ -1,66 +1,60 @@
-use Rattle.std.proofs.Common.{◌≡◌, sym, ap, ◌∙◌, List, ℕ, suc, ◌+◌, ◌-◌, ◌*◌, ◌^◌, ◌≤◌, ◌<◌, take, drop, get_or, arith, pow-suc, length-drop}
-use native.Mathlib.Nat.{pow-le-pow_right}
-use Rattle.text.specs.Ascii.{ZERO}
+-- What the digits so far say is below a power of ten.
+use Rattle.std.proofs.Common.{rules, ◌≡◌, refl, sym, ap, ◌∙◌, List, [], ◌∷◌, map, ℕ, suc, ◌+◌, ◌-◌, ◌*◌, ◌^◌, ◌≤◌, ◌<◌, length, take, get_or, length-take-le, get_or-take, subst, arith, pow-suc}
+use Rattle.std.proofs.Math.Nat.{pow-le-pow_right}
+use Rattle.std.proofs.lemmas.List.{map-append, get_or_default}
+use Rattle.std.proofs.lemmas.Fn.{fold_over, serves_by, slice_gives, fronts}
+use Rattle.std.proofs.lemmas.Iterator.{YieldsList-from_slice}
+use Rattle.std.proofs.lemmas.Iterator.Consumers.{YieldsList-so_far, YieldsList-turn}
+use Rattle.text.specs.Ascii.{ZERO, NINE}
 use Rattle.text.specs.Number.{run, value}
-use Rattle.text.proofs.Scan.{DigitAt, run_at, run_le, value_at}
-use Rattle.text.proofs.number.value_of.Invariants.{Valuing}
+use Rattle.text.proofs.Scan.{digit_at, value_last}
 use Rattle.text.proofs.number.value_of.Goals as goal
 
-starts : (s : List ℕ) (at count : ℕ) → count ≤ run (drop at s) → Valuing s at count (at + count) 0 at
-starts s at count h =
-    let all : at + count - at ≡ count = omega arith in
-    let none : at - at ≡ 0 = omega arith in
-    record { low = omega arith; high = omega arith; digits = omega arith; small = rw none (omega arith); whole = rw all }
-
-module _ {s : List ℕ} {at count end v i : ℕ} (w : Valuing s at count end v i) (h : i < end) where
-  digit_there : DigitAt s i
-  digit_there = run_at s i (omega (arith, w.digits))
-
-  -- before the last of ten digits the number is below 10 ^ 9
-  room : end ≤ at + 10 → v < 1000000000
-  room t =
-      let m : 10 ^ (i - at) ≤ 10 ^ 9 = pow-le-pow_right {n = 10} (omega arith) {i = i - at} {j = 9} (omega arith) in
-      omega (arith, m, w.small)
-
-  more : Valuing s at count end (v * 10 + (get_or s i 0 - ZERO)) (i + 1)
-  more =
-      let left : end - i ≡ suc (end - (i + 1)) = omega arith in
-      let past : i + 1 - at ≡ suc (i - at) = omega (arith, w.low) in
-      record {
-        low = omega (arith, w.low);
-        high = omega arith;
-        digits = omega (arith, w.digits, digit_there.counts);
-        small = rw past (omega (arith, pow-suc 10 (i - at), w.small, digit_there.low, digit_there.high));
-        whole = sym (value_at s i (end - (i + 1)) v digit_there) ∙ ap (λ (k : ℕ). value v (take k (drop i s))) (sym left) ∙ w.whole;
-      }
-
-ends : {s : List ℕ} {at count end v i : ℕ} → Valuing s at count end v i → end ≤ i → v ≡ value 0 (take count (drop at s))
+none : 0 ≡ value 0 []
 unfolding value
-ends {s} {at} {count} {end} {v} {i} w h = let none : end - i ≡ 0 = omega arith in rw none at w.whole
+none = refl
 
-pub overflow_add-end : goal.overflow_add-end
-overflow_add-end c = let a = c.args in omega (arith, run_le (drop a.at a.s.now), length-drop a.at a.s.now)
+below : (l : List ℕ) (a k : ℕ) → a < k → ((i : ℕ) → i < length l → get_or l i 0 ≤ NINE) → value a l < k * 10 ^ length l
+unfolding value
+below [] a k h d = omega (arith, h)
+below (b ∷ l) a k h d =
+    let r = below l (a * 10 + (b - ZERO)) (k * 10) (omega (arith, h, d 0 (omega arith))) (λ i p. d (suc i) (omega (arith, p))) in
+    rw (pow-suc 10 (length l)) (omega (arith, r))
 
-pub loop-i-init : goal.loop-i-init
-loop-i-init c = let a = c.args in starts a.s.now a.at a.count c.requires.0
+-- the digit at n, and v the number before it
+record Turn (v b : ℕ) : Type 0 where
+  low : ZERO ≤ b
+  high : b ≤ NINE
+  small : v < 10 ^ 9
 
-pub overflow_mul-v : goal.overflow_mul-v
-overflow_mul-v c = omega (arith, room c.loop-i.invariant c.loop-i-test.true (omega arith))
+turn : (l : List ℕ) (n v b : ℕ) → run l ≡ length l → length l ≤ 10 → n < length l → v ≡ value 0 (take n l) → b ≡ get_or l n b → Turn v b
+turn l n v b all few h e f =
+    let t : length (take n l) ≡ n = length-take-le n l (omega (arith, h)) in
+    let d = digit_at l n (omega (arith, all, h)) in
+    let w : b ≡ get_or l n 0 = f ∙ get_or_default l n b 0 h in
+    let high : (i : ℕ) → i < length (take n l) → get_or (take n l) i 0 ≤ NINE =
+    λ i k. subst (λ x. x ≤ NINE) (sym (get_or-take n l i 0 (omega (arith, k, t)))) (digit_at l i (omega (arith, all, h, k, t))).high in
+    let v1 : value 0 (take n l) < 1 * 10 ^ n = rw t at (below (take n l) 0 1 (omega arith) high) in
+    let m : n ≤ 9 = omega (arith, h, few) in
+    let p : 10 ^ n ≤ 10 ^ 9 = pow-le-pow_right {n = 10} (omega arith) m in
+    record { low = omega (arith, w, d.low); high = omega (arith, w, d.high); small = omega (arith, e, v1, p) }
 
-pub bounds-s-i : goal.bounds-s-i
-bounds-s-i c = (digit_there c.loop-i.invariant c.loop-i-test.true).inside
-
-pub overflow_sub-v : goal.overflow_sub-v
-overflow_sub-v c = (digit_there c.loop-i.invariant c.loop-i-test.true).low
-
-pub overflow_add-v : goal.overflow_add-v
-overflow_add-v c = omega (arith, (digit_there c.loop-i.invariant c.loop-i-test.true).high, room c.loop-i.invariant c.loop-i-test.true (omega arith))
-
-pub overflow_add-i : goal.overflow_add-i
-overflow_add-i c = omega (arith, (digit_there c.loop-i.invariant c.loop-i-test.true).inside)
-
-pub loop-i-preserved : goal.loop-i-preserved
-loop-i-preserved c = more c.loop-i.invariant c.loop-i-test.true
+pub fold-requires-clause-callable : goal.fold-requires-clause-callable
+fold-requires-clause-callable c =
+    serves_by _ (λ xs q. q.1 ≡ value 0 (map (λ y. y.now) xs))
+    (λ xs q x v j r. let w : v.1 ≡ q.1 * 10 + (x.now - ZERO) = search rules in
+    w ∙ ap (λ n. n * 10 + (x.now - ZERO)) j ∙ sym (value_last 0 (map (λ y. y.now) xs) x.now) ∙ ap (value 0) (sym (map-append (λ y. y.now) xs (x ∷ []))))
+    _ _ _ _ none
+    (λ xs t q x u y e j.
+    let road = YieldsList-from_slice c.args.digits.now (cc) in
+    let p = YieldsList-turn road xs t y _ u x refl e in
+    let d = turn c.args.digits.now (length xs) q.1 x.now c.requires.all c.requires.few p.0 (j ∙ ap (value 0) (YieldsList-so_far road xs t y)) p.1 in
+    search rules)
 
 pub returns : goal.returns
-returns c = ends c.loop-i.invariant c.loop-i-test.false
+returns c =
+    subst (λ l. c.fold.result ≡ value 0 l) c.iter.ensures.rest
+    (fold_over fronts (λ y. y.now) _ (λ ys a. a ≡ value 0 ys) _
+    (λ ys a x b f' j k. let w : b ≡ a * 10 + (x.now - ZERO) = search rules in
+    (w ∙ ap (λ n. n * 10 + (x.now - ZERO)) j ∙ sym (value_last 0 ys x.now), refl))
+    _ _ _ _ (slice_gives c.iter.result) none c.fold.ensures.ran)
