@@ -6,9 +6,7 @@ pub mod Newline
 pub mod Restored
 pub mod Marks
 pub mod Examples
-pub mod Casts
-pub mod Copies
-pub mod Parts
-pub mod Either
-pub mod Determined
+pub mod Words
+pub mod Writing
 pub mod Restoring
+pub mod Determined

@@ -4,8 +4,7 @@ use mathlib.Core.Path.{◌≡◌, refl}
 use mathlib.Core.Bool.{true}
 use lib.Dec.{eqb}
 use Rattle.band.specs.declared.Filters.{Filters}
-use Rattle.g722.specs.declared.Encoder.{Encoder}
-use Rattle.g722.specs.declared.Decoder.{Decoder}
+use Rattle.g722.specs.Session.{Encoder, Decoder}
 use Rattle.text.specs.Newline.{OneLine}
 use Rattle.text.proofs.Tests.{either}
 use Rattle.line.specs.Letters.{letter_e, letter_d}

@@ -10,19 +10,23 @@ use lib.ListN.{length, take, drop, length-append}
 use lib.Seq.{take-append_seam}
 use lib.Dec.{eqb, ltb}
 use borrow.Author.Tests.{eq-eqb, le-leb, ltb-false}
+use Rattle.std.specs.Prelude.{Some}
 use Rattle.answers.specs.Numbers.{done, out_of_bounds, no_room, other_kind}
 use Rattle.band.specs.declared.Filters.{Filters}
 use Rattle.band.proofs.Boxes.{words_join}
-use Rattle.g722.specs.Session.{position_most, session_in_bounds}
+use Rattle.answers.specs.Lent.{leaves}
+use Rattle.answers.specs.Outcomes.{reply}
+use Rattle.g722.specs.declared.Session.{Session}
+use Rattle.mark.specs.Marks.{session_line, write_out, restore_answer}
+use Rattle.g722.specs.Session.{session_at, in_bounds, position_most, session_in_bounds}
 use Rattle.g722.proofs.Written.{first_items}
 use Rattle.text.specs.Fields.{AllShort}
 use Rattle.line.specs.Line.{kind_letter, start_letter, plain_two, read_line, line_numbers}
-use Rattle.line.specs.declared.Line.TheVariants.{Sound}
 use Rattle.line.proofs.LineTexts.{read_line_lem}
 use Rattle.line.proofs.Longest.{words_short}
 use Rattle.mark.specs.Numbers.{band_numbers, filters_numbers}
-use Rattle.mark.specs.Answer.{rate_most, number_count, letter_of, start_of, line_of, write_number, write_out}
-use Rattle.mark.specs.Answer.{numbers_in_bounds, text_session, restore_number, restored_session, restore_answer}
+use Rattle.mark.specs.Answer.{rate_most, number_count, letter_of, start_of, line_of, write_number}
+use Rattle.mark.specs.Answer.{numbers_in_bounds, text_session, restore_number, restored_session}
 use Rattle.mark.proofs.Numbers.{filters_back}
 use Rattle.mark.proofs.Inside.{inside}
 use Rattle.mark.proofs.Short.{words}
@@ -58,7 +62,7 @@ module _ (kind rate start position : ℕ) (f : Filters) (rate_fits : rate ≤ ra
   -- what restoring the line finds
   module _ (kind-is : kind_letter kind ≡ true) where
     line_read : let line = line_of kind rate start position f in
-        (read_line number_count line ≡ Sound kind (letter_of start) (length line)) × (line_numbers number_count line ≡ numbers)
+        (read_line number_count line ≡ Some (record { kind = kind; start = letter_of start; count = length line })) × (line_numbers number_count line ≡ numbers)
     unfolding line_of numbers plain_two
     line_read =
         let letter = (start_back start (inside start position f e).start_is).0 in
@@ -74,18 +78,17 @@ module _ (kind rate start position : ℕ) (f : Filters) (rate_fits : rate ≤ ra
     unfolding restore_number
     other_kind_lem own other = rw (line_read.0, eq-eqb (length (line_of kind rate start position f)) _ refl, other)
 
-    line_session : {S : Type 0} (make : ℕ → ℕ → ℕ → Filters → S) (s : S)
-        → restored_session make s (line_of kind rate start position f) ≡ make rate start position f
+    line_session : {K : Type 0} (s : Session K) → restored_session s (line_of kind rate start position f) ≡ session_at rate start position f
     unfolding restored_session numbers
-    line_session make s =
+    line_session s =
         let i = inside start position f e in
-        ap₂ (text_session make s) line_read.1 line_read.0
-        ∙ ap₂ (λ (z : ℕ) (g : Filters). make rate z position g) (start_back start i.start_is).1 (filters_back f i.x_long)
+        ap₂ (text_session s) line_read.1 line_read.0
+        ∙ ap₂ (λ (z : ℕ) (g : Filters). session_at rate z position g) (start_back start i.start_is).1 (filters_back f i.x_long)
 
-    pub line_restored : {S A : Type 0} (reply : ℕ → ℕ → S → A) (make : ℕ → ℕ → ℕ → Filters → S) (s : S)
-        → restore_answer reply make true kind s (line_of kind rate start position f) ≡ reply done 0 (make rate start position f)
+    pub line_restored : {K : Type 0} (s : Session K) → in_bounds s ≡ true
+        → restore_answer kind s (line_of kind rate start position f) ≡ reply done 0 (session_at rate start position f)
     unfolding restore_answer
-    line_restored reply make s = rw (line_number, line_session make s)
+    line_restored s h = rw (h, line_number, line_session s)
 
 -- ---- what writing leaves at the front of the output
 
@@ -95,21 +98,19 @@ room_enough true false z = refl
 room_enough false short z = absurd (omega (arith, z))
 
 pub written_front : (within : Bool) (line out : List ℕ) → write_number within line (length out) ≡ 0
-    → write_out within line out ≡ line ++ drop (length line) out
-unfolding write_out write_number
+    → leaves (write_number within line (length out)) line out ≡ line ++ drop (length line) out
+unfolding write_number
 written_front within line out z =
     rw z (first_items line out _ refl (ltb-false _ _ (room_enough within (ltb (length out) (length line)) z)))
 
 pub written_line : (within : Bool) (line out : List ℕ) → write_number within line (length out) ≡ 0
-    → take (length line) (write_out within line out) ≡ line
+    → take (length line) (leaves (write_number within line (length out)) line out) ≡ line
 written_line within line out z = rw (written_front within line out z) (take-append_seam line (drop (length line) out))
 
--- here: whether the session that restores is within its bounds
-pub round_trip : {S A : Type 0} (reply : ℕ → ℕ → S → A) (make : ℕ → ℕ → ℕ → Filters → S) (kind rate start position : ℕ) (f : Filters)
-    (here : Bool) (s : S) (out : List ℕ) → kind_letter kind ≡ true → rate ≤ rate_most → session_in_bounds start position f ≡ true → here ≡ true
-    → let line = line_of kind rate start position f in let within = session_in_bounds start position f in
-    write_number within line (length out) ≡ done
-    → restore_answer reply make here kind s (take (length line) (write_out within line out)) ≡ reply done 0 (make rate start position f)
-round_trip reply make kind rate start position f here s out k r e h z =
-    rw (written_line (session_in_bounds start position f) (line_of kind rate start position f) out z, h)
-    (line_restored kind rate start position f r e k reply make s)
+pub round_trip : {K : Type 0} (kind : ℕ) (w s : Session K) (out : List ℕ) → kind_letter kind ≡ true → w.rate ≤ rate_most
+    → in_bounds w ≡ true → in_bounds s ≡ true → write_number (in_bounds w) (session_line kind w) (length out) ≡ done
+    → restore_answer kind s (take (length (session_line kind w)) (write_out kind w out)) ≡ reply done 0 w
+unfolding write_out
+round_trip kind w s out k r e h z =
+    rw (written_line (in_bounds w) (session_line kind w) out z)
+    (line_restored kind w.rate w.start w.position w.filters r e k s h)

@@ -1,16 +1,14 @@
--- What mark writing and restoring answer and leave in the output, said once for both kinds of session (docs/RULES.md, "Answers",
--- "Mark lines"). `reply` makes a kind's answer, and `make` its session of rate, start, position and filters.
-use Rattle.std.specs.Prelude.{ℕ, Bool, cond, not, ◌&&◌, List, ◌∷◌, ℤ, pos, nat_abs, length, drop, get_or, eqb, ltb}
+-- What mark writing and restoring answer, by the parts of a session, its line and a text (docs/RULES.md, "Answers", "Mark lines").
+use Rattle.std.specs.Prelude.{ℕ, Bool, cond, not, ◌&&◌, Option, Some, None, List, ◌∷◌, ℤ, pos, nat_abs, length, drop, get_or, eqb, ltb}
 use Rattle.std.specs.Int.Signed.{le_z}
 use Rattle.answers.specs.Numbers.{done, out_of_bounds, no_room, malformed, other_kind, number_out_of_bounds}
-use Rattle.answers.specs.Lent.{leaves}
 use Rattle.band.specs.declared.Filters.{Filters}
 use Rattle.band.specs.Bounds.{filters_in_bounds}
-use Rattle.g722.specs.Session.{position_most}
+use Rattle.g722.specs.declared.Session.{Session}
+use Rattle.g722.specs.Session.{position_most, session_at}
 use Rattle.line.specs.Letters.{letter_z, letter_s}
 use Rattle.line.specs.Line.{line_text, read_line, line_numbers}
 use Rattle.line.specs.declared.Line.{Line}
-use Rattle.line.specs.declared.Line.TheVariants.{Sound, Malformed}
 use Rattle.mark.specs.Numbers.{filters_numbers, filters_of}
 
 abbrev pub rate_most : ℕ
@@ -36,14 +34,6 @@ line_of kind rate start position filters = line_text kind (letter_of start) (pos
 unfoldable pub write_number : Bool → List ℕ → ℕ → ℕ
 write_number inside line room = cond (not inside) out_of_bounds (cond (ltb room (length line)) no_room done)
 
-unfoldable pub write_answer : {S A : Type 0} → (ℕ → ℕ → S → A) → Bool → List ℕ → S → ℕ → A
-write_answer reply inside line s room =
-    let number = write_number inside line room in
-    reply number (cond (eqb number done) (length line) 0) s
-
-unfoldable pub write_out : Bool → List ℕ → List ℕ → List ℕ
-write_out inside line out = leaves (write_number inside line (length out)) line out
-
 -- ---- restoring
 
 -- the numbers of a line are within the bounds of a session; that rate and position are not below 0 the line's form says
@@ -52,27 +42,27 @@ numbers_in_bounds vs =
     le_z (get_or vs 0 (pos 0)) (pos rate_most) && (le_z (get_or vs 1 (pos 0)) (pos position_most) && filters_in_bounds (filters_of (drop 2 vs)))
 
 -- the number of a text of n bytes, by what is read at its front, and the session that it says
-abbrev pub text_number : ℕ → ℕ → List ℤ → Line → ℕ
-text_number kind n vs (Sound k letter count) =
-    cond (not (eqb count n)) malformed (cond (not (eqb k kind)) other_kind (cond (not (numbers_in_bounds vs)) number_out_of_bounds done))
-text_number kind n vs Malformed = malformed
-
--- the session of a start letter and numbers
-abbrev pub session_of : {S : Type 0} → (ℕ → ℕ → ℕ → Filters → S) → ℕ → List ℤ → S
-session_of make letter vs = make (nat_abs (get_or vs 0 (pos 0))) (start_of letter) (nat_abs (get_or vs 1 (pos 0))) (filters_of (drop 2 vs))
-
-abbrev pub text_session : {S : Type 0} → (ℕ → ℕ → ℕ → Filters → S) → S → List ℤ → Line → S
-text_session make s vs (Sound k letter count) = session_of make letter vs
-text_session make s vs Malformed = s
+abbrev pub text_number : ℕ → ℕ → List ℤ → Option Line → ℕ
+text_number kind n vs (Some l) =
+    cond (not (eqb l.count n)) malformed
+    (cond (not (eqb l.kind kind)) other_kind
+    (cond (not (numbers_in_bounds vs)) number_out_of_bounds
+    done))
+text_number kind n vs None = malformed
 
 unfoldable pub restore_number : Bool → ℕ → List ℕ → ℕ
 restore_number inside kind text =
     cond (not inside) out_of_bounds (text_number kind (length text) (line_numbers number_count text) (read_line number_count text))
 
-unfoldable pub restored_session : {S : Type 0} → (ℕ → ℕ → ℕ → Filters → S) → S → List ℕ → S
-restored_session make s text = text_session make s (line_numbers number_count text) (read_line number_count text)
+module _ {K : Type 0} where
+  -- the session of a start letter and numbers
+  abbrev pub session_of : ℕ → List ℤ → Session K
+  session_of letter vs =
+      session_at (nat_abs (get_or vs 0 (pos 0))) (start_of letter) (nat_abs (get_or vs 1 (pos 0))) (filters_of (drop 2 vs))
 
-unfoldable pub restore_answer : {S A : Type 0} → (ℕ → ℕ → S → A) → (ℕ → ℕ → ℕ → Filters → S) → Bool → ℕ → S → List ℕ → A
-restore_answer reply make inside kind s text =
-    let number = restore_number inside kind text in
-    cond (eqb number done) (reply done 0 (restored_session make s text)) (reply number 0 s)
+  abbrev pub text_session : Session K → List ℤ → Option Line → Session K
+  text_session s vs (Some l) = session_of l.start vs
+  text_session s vs None = s
+
+  unfoldable pub restored_session : Session K → List ℕ → Session K
+  restored_session s text = text_session s (line_numbers number_count text) (read_line number_count text)

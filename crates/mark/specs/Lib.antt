@@ -1,4 +1,4 @@
 pub mod Numbers
 pub mod Answer
 pub mod Marks
-pub mod Either
+pub mod Reading

@@ -1,19 +1,17 @@
 // The numbers of a session in the order of its mark line, and the filters that such numbers say.
-ghost use Rattle.std.specs.Prelude.{◌≡◌, true, ◌∷◌, ◌+◌, ◌≤◌, pos, negsuc, length, take, drop};
-ghost use Rattle.std.proofs.lemmas.List.Edits.{sets};
-ghost use Rattle.band.specs.Bounds.{between, all_words, filters_in_bounds};
+ghost use Rattle.std.specs.Prelude.{◌≡◌, ◌≤◌, ◌∷◌, pos, length};
+ghost use Rattle.std.specs.Bool.{then_some};
+ghost use Rattle.band.specs.Bounds.{all_words, filters_in_bounds};
 ghost use Rattle.mark.specs.Numbers.{band_numbers, band_of, filters_numbers, filters_of};
-ghost use Rattle.mark.specs.Answer.{number_count};
 
 use band::{Band, Filters};
 
-// Where x and the bands begin among the numbers of a line, after rate and position.
-const X_AT: usize = 2;
+// How many numbers the filters have, and a line: rate, position and the filters'.
+const FILTERS_COUNT: usize = 70;
 
-const LOW_AT: usize = 26;
+pub(crate) const NUMBER_COUNT: usize = 72;
 
-const HIGH_AT: usize = 49;
-
+// A band's numbers by name, in the order of docs/RULES.md.
 fn band_numbers(b: Band) -> [i16; 23]
     ensures { result ≡ band_numbers b }
 {
@@ -23,8 +21,10 @@ fn band_numbers(b: Band) -> [i16; 23]
     ]
 }
 
-fn band_of(n: [i16; 23]) -> Band
-    ensures { result ≡ band_of n }
+// The band of such numbers.
+fn band_of(n: &[i16]) -> Band
+    requires { 23 ≤ length n.now }
+    ensures { result ≡ band_of n.now }
 {
     Band {
         s: n[0],
@@ -53,84 +53,59 @@ fn band_of(n: [i16; 23]) -> Band
     }
 }
 
-// Stores words from `at` on.
-fn widen_in(out: &mut [i64], at: usize, words: &[i16])
-    requires { at + length words.now ≤ length out.old }
-    ensures { out.new ≡ sets out.old at words.now }
+// x, the low band, the high band.
+fn filters_numbers(f: Filters) -> [i16; FILTERS_COUNT]
+    ensures { result ≡ filters_numbers f }
 {
-    let mut i = 0;
-    while i < words.len() {
-        out[at + i] = words[i] as i64;
-        i += 1;
+    let mut words = [0i16; FILTERS_COUNT];
+    words[..24].copy_from_slice(&f.x);
+    words[24..47].copy_from_slice(&band_numbers(f.low));
+    words[47..].copy_from_slice(&band_numbers(f.high));
+    words
+}
+
+// Rate, position and the filters' numbers: of a session these three alone, since its kind and its start are letters of the line.
+pub(crate) fn numbers_of(rate: u32, position: u32, f: Filters) -> [i64; NUMBER_COUNT]
+    ensures { result ≡ pos rate ∷ pos position ∷ filters_numbers f }
+{
+    let mut numbers = [0i64; NUMBER_COUNT];
+    numbers[0] = i64::from(rate);
+    numbers[1] = i64::from(position);
+    numbers[2..].copy_from_slice(&filters_numbers(f).map(i64::from));
+    numbers
+}
+
+// The numbers, if each has at most 16 bits.
+fn words_of(numbers: &[i64]) -> Option<[i16; FILTERS_COUNT]>
+    requires { length numbers.now ≡ 70 }
+    ensures { result ≡ then_some (all_words numbers.now) numbers.now }
+{
+    let mut words = [0i16; FILTERS_COUNT];
+    for (i, number) in numbers.iter().enumerate() {
+        words[i] = i16::try_from(*number).ok()?;
     }
+    Some(words)
 }
 
-fn is_word(v: i64) -> bool
-    ensures { result ≡ between (negsuc 32767) (pos 32767) v }
-{
-    (-32768 <= v) & (v <= 32767)
-}
-
-// Fills `words` with the numbers from `at` on and answers true, or false where one of them has more than 16 bits.
-fn narrow_in(words: &mut [i16], vs: &[i64], at: usize) -> bool
-    requires { at + length words.old ≤ length vs.now }
-    ensures value { result ≡ all_words (take (length words.old) (drop at vs.now)) }
-    ensures words_after { result ≡ true → words.new ≡ take (length words.old) (drop at vs.now) }
-{
-    let mut i = 0;
-    while i < words.len() {
-        let v = vs[at + i];
-        if !is_word(v) {
-            return false;
-        }
-        words[i] = v as i16;
-        i += 1;
-    }
-    true
-}
-
-pub(crate) fn put_numbers(out: &mut [i64], rate: u32, position: u32, f: Filters)
-    requires { length out.old ≡ number_count }
-    ensures { out.new ≡ pos rate ∷ pos position ∷ filters_numbers f }
-{
-    out[0] = rate as i64;
-    out[1] = position as i64;
-    let x = f.x;
-    widen_in(out, X_AT, &x);
-    let low = band_numbers(f.low);
-    widen_in(out, LOW_AT, &low);
-    let high = band_numbers(f.high);
-    widen_in(out, HIGH_AT, &high);
-}
-
-// The filters that numbers say, if they are within their bounds; if not, the filters are of no use.
-#[derive(Clone, Copy)]
-pub(crate) struct Said {
-    pub inside: bool,
-    pub filters: Filters,
-}
-
-pub(crate) fn filters_of(vs: &[i64]) -> Said
-    requires { length vs.now ≡ number_count }
-    ensures inside_value { result.inside ≡ filters_in_bounds (filters_of (drop 2 vs.now)) }
-    ensures filters_value { result.inside ≡ true → result.filters ≡ filters_of (drop 2 vs.now) }
+// The filters that the numbers say, each of 16 bits.
+#[tactic(auto, unfolding(crate::specs::Numbers::filters_of))]
+fn filters_from(words: &[i16; FILTERS_COUNT]) -> Filters
+    ensures { result ≡ filters_of words.now }
 {
     let mut x = [0i16; 24];
-    let x_words = narrow_in(&mut x, vs, X_AT);
-    let mut low = [0i16; 23];
-    let low_words = narrow_in(&mut low, vs, LOW_AT);
-    let mut high = [0i16; 23];
-    let high_words = narrow_in(&mut high, vs, HIGH_AT);
-    let low_band = band_of(low);
-    let high_band = band_of(high);
-    let filters = Filters {
+    x.copy_from_slice(&words[..24]);
+    Filters {
         x,
-        low: low_band,
-        high: high_band,
-    };
-    let filters_in = filters.in_bounds();
-    Said {
-        inside: x_words & low_words & high_words & filters_in,
-        filters,
+        low: band_of(&words[24..]),
+        high: band_of(&words[47..]),
     }
+}
+
+// The filters that the numbers say, if they are within their bounds.
+pub(crate) fn filters_of(numbers: &[i64]) -> Option<Filters>
+    requires { length numbers.now ≡ 70 }
+    ensures { let f = filters_of numbers.now in result ≡ then_some (filters_in_bounds f) f }
+{
+    let filters = filters_from(&words_of(numbers)?);
+    filters.in_bounds().then_some(filters)
 }

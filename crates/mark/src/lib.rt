@@ -1,113 +1,103 @@
 // A session's mark: one line of text that says it whole, written into a lent buffer, and restored.
 #![tactic(auto)]
 
-mod both;
 mod flat;
+mod reading;
 
-ghost use Rattle.std.specs.Prelude.{◌≡◌, length};
-ghost use Rattle.mark.specs.Marks.{encoder_write_answer, encoder_write_out, encoder_restore_answer};
-ghost use Rattle.mark.specs.Marks.{decoder_write_answer, decoder_write_out, decoder_restore_answer};
+ghost use Rattle.std.specs.Prelude.{◌≡◌, ℕ, length};
+ghost use Rattle.answers.specs.Outcomes.{outcome};
+ghost use Rattle.line.specs.Letters.{letter_e, letter_d};
+ghost use Rattle.g722.specs.Session.{in_bounds};
+ghost use Rattle.mark.specs.Answer.{letter_of, write_number};
+ghost use Rattle.mark.specs.Marks.{session_line, write_answer, write_out, restore_answer};
 
-use g722::{Decoder, DecoderAnswer, Encoder, EncoderAnswer};
+use answers::{Answer, Outcome, Refusal};
+use g722::{Decoding, Encoding, Session};
 
-// Writes the encoder's mark at the front of `out`. The count is that of the line's bytes.
-pub fn write_encoder(session: Encoder, out: &mut [u8]) -> EncoderAnswer
-    ensures answer { result ≡ encoder_write_answer session (length out.old) }
-    ensures written { out.new ≡ encoder_write_out session out.old }
+// A kind of session, by the letter that its lines have.
+pub trait Kind: Copy {
+    ghost letter: { ℕ };
+
+    fn letter() -> u8
+        ensures { result ≡ letter };
+}
+
+impl Kind for Encoding {
+    ghost letter = { letter_e };
+
+    fn letter() -> u8 {
+        line::LETTER_E
+    }
+}
+
+impl Kind for Decoding {
+    ghost letter = { letter_d };
+
+    fn letter() -> u8 {
+        line::LETTER_D
+    }
+}
+
+// The letter of a start.
+#[tactic(auto, unfolding(crate::specs::Answer::letter_of))]
+fn letter_of(start: u8) -> u8
+    ensures { result ≡ letter_of start }
 {
-    let inside = session.in_bounds();
-    let filters = session.filters;
-    let encoder_line = both::write(
-        inside,
-        line::LETTER_E,
-        session.rate,
-        session.start,
-        session.position,
-        out,
-        filters,
-    );
-    EncoderAnswer {
-        number: encoder_line.number,
-        count: encoder_line.count,
+    if start == 1 {
+        line::LETTER_S
+    } else {
+        line::LETTER_Z
+    }
+}
+
+// Writes the session's line at the front of `out`.
+#[tactic(auto, unfolding(crate::specs::Answer::write_number, crate::specs::Marks::write_out))]
+fn write_line<K: Kind>(session: Session<K>, out: &mut [u8]) -> Outcome
+    ensures value { let line = session_line K.letter session in result ≡ outcome (write_number (in_bounds session) line (length out.old)) (length line) }
+    ensures written { out.new ≡ write_out K.letter session out.old }
+{
+    if !session.in_bounds() {
+        return Err(Refusal::OutOfBounds);
+    }
+    let numbers = flat::numbers_of(session.rate, session.position, session.filters);
+    let count = line::line_length(&numbers);
+    if out.len() < count {
+        return Err(Refusal::NoRoom);
+    }
+    line::write_line(out, K::letter(), letter_of(session.start), &numbers);
+    Ok(count)
+}
+
+// Writes the session's mark at the front of `out`. The count is that of the line's bytes.
+#[tactic(auto, unfolding(crate::specs::Marks::write_answer))]
+pub fn write<K: Kind>(session: Session<K>, out: &mut [u8]) -> Answer<Session<K>>
+    ensures answer { result ≡ write_answer K.letter session (length out.old) }
+    ensures written { out.new ≡ write_out K.letter session out.old }
+{
+    Answer {
+        outcome: write_line(session, out),
         session,
     }
 }
 
-// The encoder that the line says. Of `session` nothing is kept, unless the line is refused.
-#[tactic(auto, using(crate::proofs::Restoring::encoder_refused, crate::proofs::Restoring::encoder_done))]
-pub fn restore_encoder(session: Encoder, line: &[u8]) -> EncoderAnswer
-    ensures answer { result ≡ encoder_restore_answer session line.now }
+// The session that the line says. Of `session` nothing is kept, unless the call refuses.
+#[tactic(auto, unfolding(crate::specs::Answer::restore_number, crate::specs::Marks::restore_answer))]
+pub fn restore<K: Kind>(session: Session<K>, line: &[u8]) -> Answer<Session<K>>
+    ensures answer { result ≡ restore_answer K.letter session line.now }
 {
-    let inside = session.in_bounds();
-    let encoder = both::read(inside, line::LETTER_E, line);
-    if encoder.number != answers::DONE {
-        return EncoderAnswer {
-            number: encoder.number,
-            count: 0,
-            session,
-        };
-    }
-    let filters = encoder.filters;
-    let restored = Encoder {
-        rate: encoder.rate,
-        start: encoder.start,
-        position: encoder.position,
-        filters,
+    let read = if session.in_bounds() {
+        reading::read(line)
+    } else {
+        Err(Refusal::OutOfBounds)
     };
-    EncoderAnswer {
-        number: answers::DONE,
-        count: 0,
-        session: restored,
-    }
-}
-
-// Writes the decoder's mark at the front of `out`. The count is that of the line's bytes.
-pub fn write_decoder(session: Decoder, out: &mut [u8]) -> DecoderAnswer
-    ensures answer { result ≡ decoder_write_answer session (length out.old) }
-    ensures written { out.new ≡ decoder_write_out session out.old }
-{
-    let inside = session.in_bounds();
-    let filters = session.filters;
-    let decoder_line = both::write(
-        inside,
-        line::LETTER_D,
-        session.rate,
-        session.start,
-        session.position,
-        out,
-        filters,
-    );
-    DecoderAnswer {
-        number: decoder_line.number,
-        count: decoder_line.count,
-        session,
-    }
-}
-
-// The decoder that the line says. Of `session` nothing is kept, unless the line is refused.
-#[tactic(auto, using(crate::proofs::Restoring::decoder_refused, crate::proofs::Restoring::decoder_done))]
-pub fn restore_decoder(session: Decoder, line: &[u8]) -> DecoderAnswer
-    ensures answer { result ≡ decoder_restore_answer session line.now }
-{
-    let inside = session.in_bounds();
-    let decoder = both::read(inside, line::LETTER_D, line);
-    if decoder.number != answers::DONE {
-        return DecoderAnswer {
-            number: decoder.number,
-            count: 0,
+    match read {
+        Ok(restored) => Answer {
+            outcome: Ok(0),
+            session: restored,
+        },
+        Err(refusal) => Answer {
+            outcome: Err(refusal),
             session,
-        };
-    }
-    let filters = decoder.filters;
-    let restored = Decoder {
-        rate: decoder.rate,
-        start: decoder.start,
-        position: decoder.position,
-        filters,
-    };
-    DecoderAnswer {
-        number: answers::DONE,
-        count: 0,
-        session: restored,
+        },
     }
 }
