@@ -9,7 +9,7 @@ use Rattle.band.specs.SameBands.{SameBands}
 use Rattle.life.specs.Life.{begun}
 use Rattle.life.proofs.Unbroken.{restored_from}
 use Rattle.history.proofs.Bands as of-lives
-use Rattle.calls.specs.G722.{encoder_of, decoder_of}
+use Rattle.calls.specs.G722.{restored, encoder_of, decoder_of}
 use Rattle.border.specs.Lines.{run, Line, Workers}
 use Rattle.border.specs.Encoding.{encoder_calls}
 use Rattle.border.specs.Decoding.{decoder_calls}
@@ -21,7 +21,7 @@ use Rattle.border.proofs.Theorems.{encoder_lines, decoder_lines}
 agree : {line line' : List ℕ} {rate rate' start : ℕ} {xs : List ℤ} → Line encoder_calls line rate start xs → {bs : List ℕ}
     → Line decoder_calls line' rate' start bs → bs ≡ run encoder_calls rate start xs
     → SameBands (encoder_of line).session.filters (decoder_of line').session.filters
-unfolding encoder_of decoder_of
+unfolding restored
 agree e d is =
     of-lives.bands_agree
     (restored_from (begun 16000 0 (omega arith) (encoder_call_laws.starts 16000 0 (omega arith))) (encoder_lines.stands e))

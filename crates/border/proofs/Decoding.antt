@@ -8,17 +8,14 @@ use lib.IntN.{pos}
 use lib.ListN.{length, length-append}
 use Rattle.answers.specs.Numbers.{done, no_room, position_past_end}
 use Rattle.samples.specs.Bytes.{bytes}
-use Rattle.g722.specs.declared.Decoder.{Decoder}
 use Rattle.runs.specs.Rates.{decode_room}
-use Rattle.g722.specs.Session.{decoder_moves, position_most}
-use Rattle.g722.specs.Decoding.{decoder_begun, decoder_in_bounds, decoder_after, decoded_samples}
+use Rattle.g722.specs.Session.{Decoder, begun, decoder_moves, position_most}
+use Rattle.g722.specs.Decoding.{decoder_after, decoded_samples}
 use Rattle.g722.proofs.MovedOn.{decoder_moves_cut}
 use Rattle.g722.proofs.Cut.{decoded_length}
 use Rattle.text.proofs.Tests.{either}
 use Rattle.line.specs.Letters.{letter_d}
-use Rattle.mark.specs.Answer.{write_answer}
 use Rattle.mark.specs.Marks.{decoder_line}
-use Rattle.mark.proofs.Round.{written_line}
 use Rattle.mark.proofs.Short.{line_short}
 use Rattle.mark.proofs.Newline.{decoder_one_line}
 use Rattle.life.specs.Kind.{Reply}
@@ -27,13 +24,14 @@ use Rattle.life.specs.Unbroken.{done_with}
 use Rattle.history.specs.Decoding.{decoding}
 use Rattle.history.proofs.Decoding.{decoder_stands, number_at_lem}
 use Rattle.pieces.proofs.Lists.{bytes_cut, length-bytes}
-use Rattle.calls.specs.G722.{call_number}
-use Rattle.calls.specs.G722.{decoder_of, decode_call_number, decode_call_out, decode_call_mark, decoder_begin_number, decoder_begin_mark}
+use Rattle.calls.specs.G722.{call_number, restored, session_begin_number, session_begin_mark}
+use Rattle.calls.specs.G722.{decode_call_number, decode_call_out, decode_call_mark}
 use Rattle.calls.specs.Answers.{OneOf, begin_answers, decode_answers}
 use Rattle.calls.proofs.Answers.{decoder_begin_answers, decode_answers_lem, never_2}
 use Rattle.border.specs.Lines.{number_at}
 use Rattle.border.specs.Decoding.{decoder_calls}
 use Rattle.border.proofs.Laws.{CallLaws}
+use Rattle.border.proofs.Marks.{mark_is}
 use Rattle.border.proofs.Numbers.{tests_in_order, two_bytes_each, start_begins}
 
 call_number_at : (rate : ℕ) (h input out next : List ℕ)
@@ -47,7 +45,7 @@ call_number_at rate h input out next =
 code_number : (line input out next : List ℕ) (rate start : ℕ) (h : List ℕ) → let s = decoder_after (fresh decoding rate start) h in
     decoding.restore (fresh decoding 16000 0) line ≡ done_with s → decoding.InBounds s
     → decode_call_number line input out next ≡ call_number 0 (decoding.number_at rate h input (length out / 2)) (length next)
-unfolding decode_call_number decoder_of
+unfolding decode_call_number restored
 code_number line input out next rate start h e i =
     let n = ap (λ (r : Reply Decoder). r.number) e in
     let s = ap (λ (r : Reply Decoder). r.session) e in
@@ -66,7 +64,7 @@ listed short past =
     either P short refl (either P past refl refl)
 
 pub decoder_call_laws : CallLaws decoder_calls
-unfolding decoder_begin_number decoder_begin_mark decoder_of decode_call_out decode_call_mark write_answer decoder_begun
+unfolding session_begin_number session_begin_mark restored decode_call_out decode_call_mark begun
 decoder_call_laws = record {
   typed = λ input b. tt;
   bytes_none = refl;
@@ -75,7 +73,7 @@ decoder_call_laws = record {
   position_cut = decoder_moves_cut;
   listed = λ rate n. listed;
   line_of = decoder_line;
-  mark_is = λ s out e. rw e (written_line (decoder_in_bounds s) (decoder_line s) out e);
+  mark_is = mark_is letter_d;
   one_line = decoder_one_line;
   line_short = λ s i. line_short letter_d s.rate s.start s.position s.filters i.0 i.1;
   starts = λ rate start h. start_begins start h;

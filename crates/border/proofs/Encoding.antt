@@ -9,16 +9,13 @@ use lib.ListN.{length, length-append}
 use Rattle.answers.specs.Numbers.{done, odd_count, no_room, position_past_end}
 use Rattle.samples.specs.Bytes.{samples}
 use Rattle.samples.proofs.Bytes.{length-samples}
-use Rattle.g722.specs.declared.Encoder.{Encoder}
 use Rattle.runs.specs.Rates.{encode_room, odd_at}
-use Rattle.g722.specs.Session.{encoder_moves, position_most}
-use Rattle.g722.specs.Encoding.{encoder_begun, encoder_in_bounds, encoder_after, encoded_bytes, encode_from_bytes_number}
+use Rattle.g722.specs.Session.{Encoder, begun, encoder_moves, position_most}
+use Rattle.g722.specs.Encoding.{encoder_after, encoded_bytes, encode_from_bytes_number}
 use Rattle.g722.proofs.Cut.{encoded_length}
 use Rattle.text.proofs.Tests.{either}
 use Rattle.line.specs.Letters.{letter_e}
-use Rattle.mark.specs.Answer.{write_answer}
 use Rattle.mark.specs.Marks.{encoder_line}
-use Rattle.mark.proofs.Round.{written_line}
 use Rattle.mark.proofs.Short.{line_short}
 use Rattle.mark.proofs.Newline.{encoder_one_line}
 use Rattle.life.specs.Kind.{Reply}
@@ -27,13 +24,14 @@ use Rattle.life.specs.Unbroken.{done_with}
 use Rattle.history.specs.Encoding.{encoding}
 use Rattle.history.proofs.Encoding.{encoder_stands, number_at_lem}
 use Rattle.pieces.proofs.Lists.{samples_words}
-use Rattle.calls.specs.G722.{call_number}
-use Rattle.calls.specs.G722.{encoder_of, encode_call_number, encode_call_out, encode_call_mark, encoder_begin_number, encoder_begin_mark}
+use Rattle.calls.specs.G722.{call_number, restored, session_begin_number, session_begin_mark}
+use Rattle.calls.specs.G722.{encode_call_number, encode_call_out, encode_call_mark}
 use Rattle.calls.specs.Answers.{OneOf, begin_answers, encode_answers}
 use Rattle.calls.proofs.Answers.{encoder_begin_answers, encode_answers_lem, never_2}
 use Rattle.border.specs.Lines.{number_at}
 use Rattle.border.specs.Encoding.{encoder_calls}
 use Rattle.border.proofs.Laws.{CallLaws}
+use Rattle.border.proofs.Marks.{mark_is}
 use Rattle.border.proofs.Numbers.{tests_in_order, start_begins}
 
 abbrev half : List ℕ → Bool
@@ -51,7 +49,7 @@ call_number_at rate h input out next =
 code_number : (line input out next : List ℕ) (rate start : ℕ) (h : List ℤ) → let s = encoder_after (fresh encoding rate start) h in
     encoding.restore (fresh encoding 16000 0) line ≡ done_with s → encoding.InBounds s
     → encode_call_number line input out next ≡ call_number 0 (cond (half input) odd_count (encoding.number_at rate h (samples input) (length out))) (length next)
-unfolding encode_call_number encode_from_bytes_number encoder_of
+unfolding encode_call_number encode_from_bytes_number restored
 code_number line input out next rate start h e i =
     let n = ap (λ (r : Reply Encoder). r.number) e in
     let s = ap (λ (r : Reply Encoder). r.session) e in
@@ -70,7 +68,7 @@ listed rate n short past =
     either P (encoder_calls.odd rate n) refl (either P short refl (either P past refl refl))
 
 pub encoder_call_laws : CallLaws encoder_calls
-unfolding encoder_moves encoder_begin_number encoder_begin_mark encoder_of encode_call_out encode_call_mark write_answer encoder_begun
+unfolding encoder_moves session_begin_number session_begin_mark restored encode_call_out encode_call_mark begun
 encoder_call_laws = record {
   typed = samples_words;
   bytes_none = refl;
@@ -79,7 +77,7 @@ encoder_call_laws = record {
   position_cut = λ rate m n. refl;
   listed = listed;
   line_of = encoder_line;
-  mark_is = λ s out e. rw e (written_line (encoder_in_bounds s) (encoder_line s) out e);
+  mark_is = mark_is letter_e;
   one_line = encoder_one_line;
   line_short = λ s i. line_short letter_e s.rate s.start s.position s.filters i.0 i.1;
   starts = λ rate start h. start_begins start h;

@@ -1,4 +1,5 @@
 pub mod Laws
+pub mod Marks
 pub mod Numbers
 pub mod Lines
 pub mod Encoding

@@ -103,7 +103,7 @@ module _ {k : Kind} (l : Laws k) {c : CCalls k} (o : CallLaws c) where
           let q = passed (short || small) no_room _ (λ t z. omega (arith, z)) p.1 in
           ltb-false _ _ (neither short small q.0)
 
-      passes : Taken 0 (cond (o.half input) odd_count (k.number_at rate h (c.input input) (o.room (length out)))) (length next)
+      passes : Taken (cond (o.half input) odd_count (k.number_at rate h (c.input input) (o.room (length out)))) (length next)
       passes = taken _ _ _ (o.number_at_lem rate h input out next ∙ allowed)
 
       -- the bytes that the run gives out next

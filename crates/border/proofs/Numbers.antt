@@ -6,6 +6,7 @@ use mathlib.Core.Bool.{Bool, true, false, cond, ◌||◌}
 use lib.Dec.{eqb, ltb}
 use borrow.Author.Tests.{ltb-true, ltb-false, lt-ltb, le-ltb}
 use Rattle.answers.specs.Numbers.{done, odd_count, no_room, position_past_end}
+use Rattle.answers.specs.Outcomes.{number_of, outcome}
 use Rattle.g722.specs.Session.{begin_number}
 use Rattle.text.proofs.Tests.{Test, yes!, no!, test}
 use Rattle.calls.specs.G722.{call_number}
@@ -39,6 +40,6 @@ two_bytes_each room n = go (test (ltb (room / 2) n))
     go (yes! e) = let h = ltb-true (room / 2) n e in rw (e, lt-ltb room (2 * n) (omega arith))
     go (no! e) = let h = ltb-false (room / 2) n e in rw (e, le-ltb room (2 * n) (omega arith))
 
-pub start_begins : (start : ℕ) → start ≤ 1 → begin_number start ≡ done
+pub start_begins : (start : ℕ) → start ≤ 1 → number_of (outcome (begin_number start) 0) ≡ done
 unfolding begin_number
 start_begins start h = rw (le-ltb 1 start h)

@@ -8,22 +8,29 @@ use lib.Dec.{eqb, ltb}
 use lib.ListN.{length}
 use lib.Seq.{sets}
 use borrow.Author.Tests.{eqb-false, ne_eqb, ltb-false, not-true}
+use Rattle.answers.specs.declared.Answer.{Answer}
 use Rattle.answers.specs.Numbers.{done, odd_count, no_room}
+use Rattle.answers.specs.Lent.{leaves}
+use Rattle.answers.specs.Outcomes.{number_of}
 use Rattle.samples.specs.Bytes.{samples, bytes}
 use Rattle.samples.proofs.Bytes.{length-samples}
 use Rattle.band.specs.Bounds.{all_words}
-use Rattle.g722.specs.declared.EncoderAnswer.{EncoderAnswer}
-use Rattle.g722.specs.declared.DecoderAnswer.{DecoderAnswer}
+use Rattle.g722.specs.declared.Session.{Session}
+use Rattle.g722.specs.declared.Encoding.{Encoding}
+use Rattle.g722.specs.declared.Decoding.{Decoding}
+use Rattle.g722.specs.Session.{Encoder, Decoder, in_bounds}
 use Rattle.g722.specs.Encoding.{encoder_after, encoded_bytes, encode_from_bytes_number, encode_from_bytes_answer, encode_from_bytes_out}
 use Rattle.g722.specs.Decoding.{decoder_after, decoded_samples, decode_number, decode_to_bytes_answer, decode_to_bytes_out}
 use Rattle.g722.proofs.AsBytes.{encoded_from_bytes, decoded_to_bytes}
 use Rattle.g722.proofs.Numbers.{from_bytes_taken, decode_taken}
 use Rattle.g722.proofs.Sound.{encoder_after_in, decoder_after_in}
-use Rattle.mark.specs.Answer.{rate_most, write_answer, write_out}
-use Rattle.mark.specs.Marks.{encoder_write_answer, encoder_write_out, decoder_write_answer, decoder_write_out}
-use Rattle.mark.proofs.Marks.{encoder_writes, decoder_writes}
-use Rattle.calls.specs.G722.{call_number, encoder_of, encode_call_number, encode_call_out, encode_call_mark}
-use Rattle.calls.specs.G722.{decoder_of, decode_call_number, decode_call_out, decode_call_mark}
+use Rattle.line.specs.Letters.{letter_e, letter_d}
+use Rattle.mark.specs.Answer.{rate_most}
+use Rattle.mark.specs.Marks.{session_line, write_answer, write_out}
+use Rattle.mark.proofs.Short.{writes}
+use Rattle.calls.specs.G722.{call_number, restored}
+
+-- ---- the tests of a call
 
 -- a test whose number is not 0 was not met where the number is 0
 pub passed : (t : Bool) (k rest : ℕ) → (t ≡ true → k ≡ 0 → ⊥) → cond t k rest ≡ 0 → (t ≡ false) × (rest ≡ 0)
@@ -31,11 +38,11 @@ passed true k rest h e = absurd (h refl e)
 passed false k rest h e = (refl, e)
 
 -- what the tests say that were passed
-pub record Taken (restored coded room : ℕ) : Type 0 where
+pub record Taken (coded room : ℕ) : Type 0 where
   pub codes : coded ≡ done
   pub roomy : 512 ≤ room
 
-pub taken : (restored coded room : ℕ) → call_number restored coded room ≡ done → Taken restored coded room
+pub taken : (restored coded room : ℕ) → call_number restored coded room ≡ done → Taken coded room
 unfolding call_number
 taken restored coded room e =
     let a = passed (not (eqb restored done)) restored _ (λ t. eqb-false restored done (not-true _ t)) e in
@@ -43,127 +50,107 @@ taken restored coded room e =
     let c = passed (ltb room 512) no_room _ (λ t z. omega (arith, z)) b.1 in
     record { codes = c.1; roomy = ltb-false room 512 c.0 }
 
--- ---- encoders
+-- ---- a call of either kind
 
--- k is the number of a call on a mark that restores to r
-pub record EncodeCall (mark input out next : List ℕ) (r : EncoderAnswer) (k : ℕ) : Type 0 where
-  pub restored : r ≡ encoder_of mark
-  pub coded : ℕ
-  pub coded_is : coded ≡ encode_from_bytes_number r.session (length input) (length out)
-  pub number_is : k ≡ call_number r.number coded (length next)
+-- a kind's letter; and of an input and an output's room the coder's number of a session, the session after, and what is written
+pub record Coder (K : Type 0) : Type 0 where
+  pub letter : ℕ
+  pub number : Session K → ℕ
+  pub after : Session K → Session K
+  pub items : Session K → List ℕ
 
--- the answer k, and what is left in both buffers
-abbrev EncodeCallAnswer : (mark input out next : List ℕ) → ℕ → List ℕ → List ℕ → Type 0
-EncodeCallAnswer mark input out next k left line =
-    (k ≡ encode_call_number mark input out next) × ((left ≡ encode_call_out mark input out next) × (line ≡ encode_call_mark mark input out next))
+-- what coding s leaves where it is done
+pub record Codes {K : Type 0} (d : Coder K) (s : Session K) (out : List ℕ) (coded : Session K) (left : List ℕ) : Type 0 where
+  pub fits : (d.after s).rate ≤ rate_most
+  pub inside : in_bounds (d.after s) ≡ true
+  pub session : coded ≡ d.after s
+  pub output : left ≡ sets out 0 (d.items s)
 
-module _ {mark input out next : List ℕ} {r : EncoderAnswer} {k : ℕ} (call : EncodeCall mark input out next r k) where
-  encode_number_lem : k ≡ encode_call_number mark input out next
-  unfolding encode_call_number
-  encode_number_lem = call.number_is ∙ rw (call.coded_is, call.restored)
+module _ {K : Type 0} (d : Coder K) (mark next : List ℕ) where
+  abbrev session : Session K
+  session = (restored d.letter mark).session
 
-  pub encode_refused : (k ≡ done → ⊥)
-      → EncodeCallAnswer mark input out next k out next
-  unfolding encode_call_out encode_call_mark
-  encode_refused z =
-      let e = ne_eqb k done z in
-      (encode_number_lem, (rw (← encode_number_lem, e), rw (← encode_number_lem, e)))
+  abbrev number : ℕ
+  number = call_number (number_of (restored {K = K} d.letter mark).outcome) (d.number session) (length next)
 
-  module _ (is_done : k ≡ done) where
-    encode_passed : Taken r.number call.coded (length next)
-    encode_passed = taken _ call.coded (length next) (sym call.number_is ∙ is_done)
+  -- what the call answers, and what it leaves in both buffers
+  pub record Left (out : List ℕ) (answered : ℕ) (left written : List ℕ) : Type 0 where
+    pub value : answered ≡ number
+    pub output : left ≡ leaves number (d.items session) out
+    pub mark_after : written ≡ leaves number (session_line d.letter (d.after session)) next
 
-    encodes : encode_from_bytes_number r.session (length input) (length out) ≡ done
-    encodes = sym call.coded_is ∙ encode_passed.codes
+  -- k is the number of a call whose mark restores to r
+  pub record Call (r : Answer (Session K)) (k : ℕ) : Type 0 where
+    pub restores : r ≡ restored d.letter mark
+    pub coded : ℕ
+    pub coded_is : coded ≡ d.number r.session
+    pub number_is : k ≡ call_number (number_of r.outcome) coded (length next)
 
-    -- the samples are encoded, and the new mark is written: 512 bytes hold it
-    module _ (words : all_words (samples input) ≡ true) (fits : r.session.rate ≤ rate_most) {a : EncoderAnswer}
-        (answer : a ≡ encode_from_bytes_answer r.session input (length out)) where
-      encoded : ((encode_from_bytes_answer r.session input (length out)).session ≡ encoder_after r.session (samples input))
-          × (encode_from_bytes_out r.session input out ≡ sets out 0 (encoded_bytes r.session (samples input)))
-      encoded = encoded_from_bytes r.session input out encodes
+  module _ {r : Answer (Session K)} {k : ℕ} (call : Call r k) where
+    is_number : k ≡ number
+    is_number = call.number_is ∙ rw (call.coded_is, call.restores)
 
-      encoder_after_is : a.session ≡ encoder_after r.session (samples input)
-      encoder_after_is = ap (λ (x : EncoderAnswer). x.session) answer ∙ encoded.0
+    pub call_refused : (out : List ℕ) → ¬ (k ≡ done) → Left out k out next
+    call_refused out z =
+        let t = ne_eqb number done (λ e. z (is_number ∙ e)) in
+        record { value = is_number; output = rw t; mark_after = rw t }
 
-      encoder_mark : (encoder_write_answer a.session (length next)).number ≡ done
-      unfolding encoder_after
-      encoder_mark =
-          let s = r.session in
-          let e = (from_bytes_taken s input out encodes).1 in
-          let moved = rw (← length-samples input) at e.not_past in
-          let inside = encoder_after_in s (samples input) words moved e.inside in
-          rw encoder_after_is (encoder_writes (encoder_after s (samples input)) fits inside (length next) encode_passed.roomy)
+    -- the mark of the session after is written: 512 bytes hold it
+    pub call_done : k ≡ done → {out left written : List ℕ} (a w : Answer (Session K)) → (d.number r.session ≡ done → Codes d r.session out a.session left)
+        → w ≡ write_answer d.letter a.session (length next) → written ≡ write_out d.letter a.session next → Left out (number_of w.outcome) left written
+    unfolding write_answer write_out
+    call_done is_done {out} {left} a w codes w_is written_is =
+        let z = sym is_number ∙ is_done in
+        let t = taken _ call.coded (length next) (sym call.number_is ∙ is_done) in
+        let c : Codes d session out a.session left = rw call.restores at (codes (sym call.coded_is ∙ t.codes)) in
+        let s = d.after session in
+        let e = writes d.letter s.rate s.start s.position s.filters (length next) c.fits c.inside t.roomy in
+        record { value = rw (w_is, c.session, e, z); output = rw z c.output; mark_after = rw (z, written_is, c.session, e) }
 
-      pub encode_done : {left line : List ℕ} {w : EncoderAnswer} → left ≡ encode_from_bytes_out r.session input out
-          → w ≡ encoder_write_answer a.session (length next) → line ≡ encoder_write_out a.session next
-          → EncodeCallAnswer mark input out next w.number left line
-      unfolding encode_call_out encode_call_mark write_answer write_out
-      encode_done left_is w-is line_is = (
-        ap (λ (x : EncoderAnswer). x.number) w-is ∙ encoder_mark ∙ sym is_done ∙ encode_number_lem,
-        (
-          rw (← encode_number_lem, is_done, ← call.restored) (left_is ∙ encoded.1),
-          rw (← encode_number_lem, is_done, ← call.restored, ← encoder_after_is) (line_is ∙ rw encoder_mark),
-        ),
-      )
+-- ---- the two coders
 
--- ---- decoders, likewise
+module _ (input out : List ℕ) where
+  abbrev pub encoder : Coder Encoding
+  encoder = record {
+    letter = letter_e;
+    number = λ s. encode_from_bytes_number s (length input) (length out);
+    after = λ s. encoder_after s (samples input);
+    items = λ s. encoded_bytes s (samples input);
+  }
 
-pub record DecodeCall (mark input out next : List ℕ) (r : DecoderAnswer) (k : ℕ) : Type 0 where
-  pub restored : r ≡ decoder_of mark
-  pub coded : ℕ
-  pub coded_is : coded ≡ decode_number r.session (length input) (length out / 2)
-  pub number_is : k ≡ call_number r.number coded (length next)
+  pub encodes : (s : Encoder) → all_words (samples input) ≡ true → s.rate ≤ rate_most → {a : Answer Encoder} {left : List ℕ}
+      → a ≡ encode_from_bytes_answer s input (length out) → left ≡ encode_from_bytes_out s input out
+      → encoder.number s ≡ done → Codes encoder s out a.session left
+  unfolding encoder_after
+  encodes s words fits answer written z =
+      let f = encoded_from_bytes s input out z in
+      let t = (from_bytes_taken s (length input) (length out) z).1 in
+      let moved = rw (← length-samples input) at t.not_past in
+      record {
+        fits = fits;
+        inside = encoder_after_in s (samples input) words moved t.inside;
+        session = ap (λ (x : Answer Encoder). x.session) answer ∙ f.0;
+        output = written ∙ f.1;
+      }
 
--- the answer k, and what is left in both buffers
-abbrev DecodeCallAnswer : (mark input out next : List ℕ) → ℕ → List ℕ → List ℕ → Type 0
-DecodeCallAnswer mark input out next k left line =
-    (k ≡ decode_call_number mark input out next) × ((left ≡ decode_call_out mark input out next) × (line ≡ decode_call_mark mark input out next))
+  abbrev pub decoder : Coder Decoding
+  decoder = record {
+    letter = letter_d;
+    number = λ s. decode_number s (length input) (length out / 2);
+    after = λ s. decoder_after s input;
+    items = λ s. bytes (decoded_samples s input);
+  }
 
-module _ {mark input out next : List ℕ} {r : DecoderAnswer} {k : ℕ} (call : DecodeCall mark input out next r k) where
-  decode_number_lem : k ≡ decode_call_number mark input out next
-  unfolding decode_call_number
-  decode_number_lem = call.number_is ∙ rw (call.coded_is, call.restored)
-
-  pub decode_refused : (k ≡ done → ⊥)
-      → DecodeCallAnswer mark input out next k out next
-  unfolding decode_call_out decode_call_mark
-  decode_refused z =
-      let e = ne_eqb k done z in
-      (decode_number_lem, (rw (← decode_number_lem, e), rw (← decode_number_lem, e)))
-
-  module _ (is_done : k ≡ done) where
-    decode_passed : Taken r.number call.coded (length next)
-    decode_passed = taken _ call.coded (length next) (sym call.number_is ∙ is_done)
-
-    decodes : decode_number r.session (length input) (length out / 2) ≡ done
-    decodes = sym call.coded_is ∙ decode_passed.codes
-
-    module _ (fits : r.session.rate ≤ rate_most) {a : DecoderAnswer}
-        (answer : a ≡ decode_to_bytes_answer r.session input (length out)) where
-      decoded : ((decode_to_bytes_answer r.session input (length out)).session ≡ decoder_after r.session input)
-          × (decode_to_bytes_out r.session input out ≡ sets out 0 (bytes (decoded_samples r.session input)))
-      decoded = decoded_to_bytes r.session input out decodes
-
-      decoder_after_is : a.session ≡ decoder_after r.session input
-      decoder_after_is = ap (λ (x : DecoderAnswer). x.session) answer ∙ decoded.0
-
-      decoder_mark : (decoder_write_answer a.session (length next)).number ≡ done
-      unfolding decoder_after
-      decoder_mark =
-          let s = r.session in
-          let e = decode_taken s (length input) (length out / 2) decodes in
-          let inside = decoder_after_in s input e.not_past e.inside in
-          rw decoder_after_is (decoder_writes (decoder_after s input) fits inside (length next) decode_passed.roomy)
-
-      pub decode_done : {left line : List ℕ} {w : DecoderAnswer} → left ≡ decode_to_bytes_out r.session input out
-          → w ≡ decoder_write_answer a.session (length next) → line ≡ decoder_write_out a.session next
-          → DecodeCallAnswer mark input out next w.number left line
-      unfolding decode_call_out decode_call_mark write_answer write_out
-      decode_done left_is w-is line_is = (
-        ap (λ (x : DecoderAnswer). x.number) w-is ∙ decoder_mark ∙ sym is_done ∙ decode_number_lem,
-        (
-          rw (← decode_number_lem, is_done, ← call.restored) (left_is ∙ decoded.1),
-          rw (← decode_number_lem, is_done, ← call.restored, ← decoder_after_is) (line_is ∙ rw decoder_mark),
-        ),
-      )
+  pub decodes : (s : Decoder) → s.rate ≤ rate_most → {a : Answer Decoder} {left : List ℕ}
+      → a ≡ decode_to_bytes_answer s input (length out) → left ≡ decode_to_bytes_out s input out
+      → decoder.number s ≡ done → Codes decoder s out a.session left
+  unfolding decoder_after
+  decodes s fits answer written z =
+      let f = decoded_to_bytes s input out z in
+      let t = decode_taken s (length input) (length out / 2) z in
+      record {
+        fits = fits;
+        inside = decoder_after_in s input t.not_past t.inside;
+        session = ap (λ (x : Answer Decoder). x.session) answer ∙ f.0;
+        output = written ∙ f.1;
+      }

@@ -1,3 +1,4 @@
+pub mod Numbers
 pub mod Begun
 pub mod Coded
 pub mod Answers

@@ -1,5 +1,5 @@
 -- An answer by its number: done, with the session that comes next and the items written, or refused, with the session as given.
-use Prim.Native.Nat.{ℕ, zero, suc}
+use Prim.Native.Nat.{ℕ, zero, suc, ◌≤◌}
 use native.Mathlib.Omega.{arith}
 use mathlib.Core.Path.{◌≡◌, refl, sym, ap, ◌∙◌}
 use mathlib.Core.Bool.{Bool, true, false, cond}
@@ -9,22 +9,21 @@ use lib.Seq.{take_at}
 use lib.Dec.{eqb}
 use borrow.Author.Tests.{ne_eqb, lt-ltb}
 use Rattle.answers.specs.Numbers.{done, out_of_bounds, odd_count, no_room, position_past_end}
+use Rattle.answers.specs.declared.Answer.{Answer}
+use Rattle.answers.specs.Outcomes.{number_of, outcome, reply}
+use Rattle.answers.proofs.Answered as answers
 use Rattle.g722.specs.Session.{begin_number, start_begun}
 use Rattle.life.specs.Kind.{Kind, Reply}
 use Rattle.life.specs.Life.{given_by}
+use Rattle.history.specs.Reply.{reply_of}
 
 abbrev pub answered : {S : Type 0} → ℕ → ℕ → S → S → Reply S
 answered number n next s = record { number = number; count = cond (eqb number 0) n 0; session = cond (eqb number 0) next s }
 
-suc_not : (n : ℕ) → eqb (suc n) 0 ≡ false
-suc_not n = ne_eqb (suc n) 0 (λ e. omega (arith, e))
-
--- an answer of either kind, made by `reply` and read by `read`
-pub answered_is : {S A : Type 0} (reply : ℕ → ℕ → S → A) (read : A → Reply S)
-    → ((number count : ℕ) (s : S) → read (reply number count s) ≡ record { number = number; count = count; session = s })
-    → (number n : ℕ) (next s : S) → read (cond (eqb number 0) (reply 0 n next) (reply number 0 s)) ≡ answered number n next s
-answered_is reply read is zero n next s = is 0 n next
-answered_is reply read is (suc number) n next s = rw (suc_not number) (is (suc number) 0 s)
+-- an answer of either kind with a number of the table, read as a reply
+pub answered_is : {S : Type 0} (number n : ℕ) (next s : S) → number ≤ 8
+    → reply_of (reply number n (cond (eqb number 0) next s)) ≡ answered number n next s
+answered_is number n next s h i = record { number = answers.number_is number n h i; count = answers.count_is number n i; session = cond (eqb number 0) next s }
 
 -- a refusal hands the session back as given
 pub refused_session : {S : Type 0} {r : Reply S} (number n : ℕ) (next s : S) → r ≡ answered number n next s
@@ -32,6 +31,15 @@ pub refused_session : {S : Type 0} {r : Reply S} (number n : ℕ) (next s : S) �
 refused_session {S} number n next s is e =
     let z = ne_eqb number 0 (λ f. e (ap (λ (q : Reply S). q.number) is ∙ f)) in
     rw (is, z)
+
+-- and so does an answer by its number that is not done
+pub refused_given : {S : Type 0} (number : ℕ) (next s : S) → let a = cond (eqb number 0) (reply 0 0 next) (reply number 0 s) in
+    ¬ (number_of a.outcome ≡ 0) → a.session ≡ s
+refused_given {S} number next s = by_test (eqb number 0)
+  where
+    by_test : (t : Bool) → let a : Answer S = cond t (reply 0 0 next) (reply number 0 s) in ¬ (number_of a.outcome ≡ 0) → a.session ≡ s
+    by_test true e = absurd (e refl)
+    by_test false e = refl
 
 -- ---- coding calls whose answer is of this form
 
@@ -80,7 +88,7 @@ not_2 false false true e = absurd (omega (arith, e))
 not_2 false false false e = absurd (omega (arith, e))
 
 -- a start that begin refuses is taken for 0
-pub refused_start : (start : ℕ) → ¬ (begin_number start ≡ 0) → start_begun start ≡ start_begun 0
+pub refused_start : (start : ℕ) → ¬ (number_of (outcome (begin_number start) 0) ≡ 0) → start_begun start ≡ start_begun 0
 unfolding begin_number start_begun
 refused_start zero e = refl
 refused_start (suc zero) e = absurd (e refl)

@@ -5,8 +5,9 @@ use mathlib.Core.Path.{◌≡◌, refl, ap}
 use mathlib.Core.List.{List, []}
 use lib.IntN.{ℤ}
 use Rattle.band.specs.declared.Filters.{Filters}
-use Rattle.g722.specs.declared.Encoder.{Encoder}
-use Rattle.g722.specs.declared.Decoder.{Decoder}
+use Rattle.g722.specs.declared.Encoding.{Encoding}
+use Rattle.g722.specs.declared.Decoding.{Decoding}
+use Rattle.g722.specs.Session.{Encoder, Decoder}
 use Rattle.g722.specs.Encoding.{encoded_bytes}
 use Rattle.g722.proofs.Agree.{sessions_agree, begun_agree}
 use Rattle.band.specs.SameBands.{SameBands}
@@ -19,7 +20,7 @@ use Rattle.history.proofs.Histories.{encoders, decoders}
 agree : {e : Encoder} {d : Decoder} {rate rate' start : ℕ} {xs : List ℤ} → Life encoding e rate start xs → {bs : List ℕ}
     → Life decoding d rate' start bs → bs ≡ encoded_bytes (fresh encoding rate start) xs → SameBands e.filters d.filters
 agree {e} {d} {rate} {rate'} {start} {xs} p q is =
-    let begun = begun_agree rate rate' start in
+    let begun = begun_agree Encoding Decoding rate rate' start in
     rw ((encoders.unbroken p).session, (decoders.unbroken q).session, is)
     (sessions_agree (fresh encoding rate start) (fresh decoding rate' start) xs
     (record { low = ap (λ (f : Filters). f.low) begun; high = ap (λ (f : Filters). f.high) begun }))

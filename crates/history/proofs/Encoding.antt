@@ -1,5 +1,5 @@
 -- Encoders keep the laws of a kind of session.
-use Prim.Native.Nat.{ℕ, ◌+◌, ◌%◌, ◌<◌, ◌^◌}
+use Prim.Native.Nat.{ℕ, ◌+◌, ◌%◌, ◌≤◌, ◌<◌, ◌^◌}
 use native.Mathlib.Omega.{arith}
 use mathlib.Core.Path.{◌≡◌, refl, sym, ap, ap₂, ◌∙◌}
 use mathlib.Core.Bool.{Bool, true, false, not, ◌&&◌}
@@ -8,45 +8,54 @@ use lib.IntN.{ℤ}
 use lib.ListN.{length, length-append}
 use lib.Dec.{eqb, ltb}
 use borrow.Author.Tests.{eq-eqb, eqb-true, not-false}
-use Rattle.g722.specs.declared.Encoder.{Encoder}
 use Rattle.runs.specs.Rates.{resamples, encode_room, odd_at}
-use Rattle.g722.specs.Session.{encoder_moves, position_most, fresh_at}
+use Rattle.g722.specs.declared.Encoding.{Encoding}
+use Rattle.g722.specs.Session.{Encoder, session_at, begun, in_bounds, encoder_moves, position_most, fresh_at}
 use Rattle.runs.specs.Runs.{doubled, paired, pairs_at, filters_after_pairs, bytes_of_pairs}
-use Rattle.g722.specs.Encoding.{encoder_at, encoder_reply, encoder_begun, encoder_in_bounds, encode_number, encode_answer}
+use Rattle.g722.specs.Encoding.{encode_number, encode_answer}
 use Rattle.g722.specs.Encoding.{encoder_after, encoded_bytes}
 use Rattle.runs.proofs.RateLaws.{nothing, not_odd}
 use Rattle.g722.proofs.MovedOn.{encoder_stays}
 use Rattle.g722.proofs.Numbers.{encode_taken}
 use Rattle.g722.proofs.Cut.{encoder_cut, encoded_cut, encoded_length}
 use Rattle.g722.proofs.Written.{encode_written}
-use Rattle.g722.proofs.Sound.{encoder_begun_in, encoder_answer_in}
+use Rattle.g722.proofs.Sound.{begun_in, encoder_answer_in}
+use Rattle.text.proofs.Tests.{either}
 use Rattle.line.specs.Letters.{letter_e}
-use Rattle.mark.specs.Answer.{write_answer, restore_number, restored_session, restore_answer}
-use Rattle.mark.specs.Marks.{encoder_line}
-use Rattle.mark.proofs.Short as short
-use Rattle.mark.proofs.Marks.{encoder_writes, encoder_round_trip, encoder_restored}
+use Rattle.mark.proofs.Marks.{encoder_writes, encoder_round_trip}
 use Rattle.life.specs.Life.{fresh}
 use Rattle.life.proofs.Laws.{Laws}
-use Rattle.history.specs.Encoding.{reply_of, encoding}
-use Rattle.history.proofs.Answered.{answered, answered_is, refused_session, Coding, refused_start}
+use Rattle.history.specs.Encoding.{encoding}
+use Rattle.history.specs.Reply.{reply_of}
+use Rattle.history.proofs.Answered.{answered, answered_is, Coding, refused_start}
 use Rattle.history.proofs.Answered as answer
+use Rattle.history.proofs.Marks as mark
 
 -- ---- begin
 
 begin_in : (rate start : ℕ) → rate < 2 ^ 32 → encoding.InBounds (fresh encoding rate start)
-unfolding encoder_begun
-begin_in rate start r = (omega arith, encoder_begun_in rate start)
+unfolding begun
+begin_in rate start r = (omega arith, begun_in Encoding rate start)
 
 begin_same : (rate start : ℕ) → ¬ ((encoding.begin rate start).number ≡ 0) → fresh encoding rate start ≡ fresh encoding rate 0
-unfolding encoder_begun
-begin_same rate start e = ap (λ (z : ℕ). encoder_at rate z 0 (fresh_at z)) (refused_start start e)
+unfolding begun
+begin_same rate start e = ap (λ (z : ℕ). session_at rate z 0 (fresh_at z)) (refused_start start e)
 
 -- ---- encode
+
+encode_small : (s : Encoder) (n room : ℕ) → encode_number s n room ≤ 8
+unfolding encode_number
+encode_small s n room =
+    let P : ℕ → Type 0 = λ k. k ≤ 8 in
+    either P (not (in_bounds s)) (omega arith)
+    (either P (odd_at s.rate n) (omega arith)
+    (either P (ltb room (encode_room s.rate n)) (omega arith)
+    (either P (ltb position_most (s.position + encoder_moves s.rate n)) (omega arith) (omega arith))))
 
 code_is : (s : Encoder) (xs : List ℤ) (room : ℕ)
     → encoding.code s xs room ≡ answered (encode_number s (length xs) room) (encode_room s.rate (length xs)) (encoder_after s xs) s
 unfolding encode_answer
-code_is s xs room = answered_is encoder_reply reply_of (λ number count t. refl) (encode_number s (length xs) room) _ _ s
+code_is s xs room = answered_is (encode_number s (length xs) room) _ _ s (encode_small s (length xs) room)
 
 abbrev calls : Coding encoding
 calls = record {
@@ -69,38 +78,19 @@ code_in s xs room i t e =
 -- the rate and the position that a history ends at
 pub encoder_stands : (rate start : ℕ) (h : List ℤ) → let s = encoder_after (fresh encoding rate start) h in
     (s.rate ≡ rate) × (s.position ≡ encoder_moves rate (length h))
-unfolding encoder_after encoder_begun
+unfolding encoder_after begun
 encoder_stands rate start h = (refl, omega arith)
 
-pub number_at_lem : (rate start : ℕ) (h xs : List ℤ) (room : ℕ) → encoder_in_bounds (encoder_after (fresh encoding rate start) h) ≡ true
+pub number_at_lem : (rate start : ℕ) (h xs : List ℤ) (room : ℕ) → in_bounds (encoder_after (fresh encoding rate start) h) ≡ true
     → encode_number (encoder_after (fresh encoding rate start) h) (length xs) room ≡ encoding.number_at rate h xs room
 unfolding encode_number
 number_at_lem rate start h xs room e = let w = encoder_stands rate start h in rw (e, w.0, w.1)
 
-number_not_2 : (s : Encoder) (n room : ℕ) → encoder_in_bounds s ≡ true → ¬ (encode_number s n room ≡ 2)
+number_not_2 : (s : Encoder) (n room : ℕ) → in_bounds s ≡ true → ¬ (encode_number s n room ≡ 2)
 unfolding encode_number
 number_not_2 s n room e z =
     answer.not_2 (odd_at s.rate n) (ltb room (encode_room s.rate n))
     (ltb position_most (s.position + encoder_moves s.rate n)) (rw e at z)
-
--- ---- marks
-
-restore_is : (s : Encoder) (text : List ℕ) → encoding.restore s text
-    ≡ answered (restore_number (encoder_in_bounds s) letter_e text) 0 (restored_session encoder_at s text) s
-unfolding restore_answer
-restore_is s text = answered_is encoder_reply reply_of (λ number count t. refl) (restore_number (encoder_in_bounds s) letter_e text) _ _ s
-
-restore_not_2 : (s : Encoder) (text : List ℕ) → encoder_in_bounds s ≡ true → ¬ ((encoding.restore s text).number ≡ 2)
-restore_not_2 s text i =
-    encoder_restored s text i (λ a. ¬ (a.number ≡ 2)) (λ t j z. omega (arith, z)) (λ z. omega (arith, z)) (λ z. omega (arith, z)) (λ z. omega (arith, z))
-
-write_same : (s : Encoder) (room : ℕ) → (encoding.write s room).session ≡ s
-unfolding write_answer
-write_same s room = refl
-
-write_not_2 : (s : Encoder) (room : ℕ) → encoder_in_bounds s ≡ true → ¬ ((encoding.write s room).number ≡ 2)
-unfolding write_answer
-write_not_2 s room e = short.write_not_2 (encoder_in_bounds s) (encoder_line s) room e
 
 -- ---- the run
 
@@ -129,7 +119,7 @@ after_none : (s : Encoder) → encoder_after s [] ≡ s
 unfolding encoder_after filters_after_pairs
 after_none s =
     let still : s.position + encoder_moves s.rate 0 ≡ s.position = omega (arith, encoder_stays s.rate) in
-    ap₂ (encoder_at s.rate s.start) still (ap (filters_after_pairs s.filters) (no_pairs s.rate))
+    ap₂ (session_at s.rate s.start) still (ap (filters_after_pairs s.filters) (no_pairs s.rate))
 
 output_none : (s : Encoder) → encoded_bytes s [] ≡ []
 unfolding encoded_bytes bytes_of_pairs
@@ -148,11 +138,11 @@ encoding_laws = record {
   refused_gives = answer.refused_gives encoding calls;
   code_not_2 = λ s xs room i e. number_not_2 s (length xs) room i.1 (sym (answer.number_is encoding calls s xs room) ∙ e);
   code_answers = λ rate start h xs room i. answer.number_is encoding calls _ xs room ∙ number_at_lem rate start h xs room i.1;
-  write_same = write_same;
-  write_not_2 = λ s room i. write_not_2 s room i.1;
+  write_same = mark.write_same letter_e;
+  write_not_2 = λ s room i. mark.write_not_2 letter_e s i.1 room;
   writes = λ s room i h. encoder_writes s i.0 i.1 room h;
-  restore_same = λ s text. refused_session _ _ _ s (restore_is s text);
-  restore_not_2 = λ s text i. restore_not_2 s text i.1;
+  restore_same = mark.restore_same letter_e;
+  restore_not_2 = λ s text i. mark.restore_not_2 letter_e s i.1 text;
   round_trip = λ s w out i j e. ap reply_of (encoder_round_trip w j.0 j.1 s out i.1 e);
   whole_none = λ s. not_odd s.rate;
   whole_more = whole_more;

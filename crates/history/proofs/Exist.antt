@@ -5,10 +5,9 @@ use mathlib.Core.Path.{◌≡◌}
 use mathlib.Core.List.{List, [], ◌∷◌, ◌++◌, flatten, append_assoc}
 use lib.IntN.{ℤ, pos}
 use lib.ListN.{length, replicate, length-replicate}
-use Rattle.g722.specs.declared.Decoder.{Decoder}
 use Rattle.runs.specs.Rates.{decode_room}
-use Rattle.g722.specs.Session.{decoder_moves, position_most}
-use Rattle.g722.specs.Decoding.{decoder_begun, decoded_samples}
+use Rattle.g722.specs.Session.{Decoder, begun as session_begun, decoder_moves, position_most}
+use Rattle.g722.specs.Decoding.{decoded_samples}
 use Rattle.g722.proofs.Cut.{decode_moves_cut}
 use Rattle.life.specs.Life.{fresh, given_by, mark_by, coded, still, further, Life, begun, called, StandsFor}
 use Rattle.life.specs.Life.{Worker, Workers, none, next}
@@ -26,7 +25,7 @@ module _ (rate start : ℕ) (r : rate < 2 ^ 32) (ok : (decoding.begin rate start
   Fits bs = decoder_moves rate (length bs) ≤ position_most
 
   moves_cut : (a b : List ℕ) → decoder_moves rate (length (a ++ b)) ≡ decoder_moves rate (length a) + decoder_moves rate (length b)
-  unfolding decoder_begun
+  unfolding session_begun
   moves_cut a b = decode_moves_cut (fresh decoding rate start) a b
 
   -- a session that has read some bytes reads some more, in one call

@@ -1,4 +1,5 @@
 pub mod Answered
+pub mod Marks
 pub mod Decoding
 pub mod Encoding
 pub mod Histories

@@ -5,12 +5,9 @@ use mathlib.Core.Path.{◌≡◌, refl, sym, ap, ◌∙◌}
 use mathlib.Core.List.{List, [], ◌∷◌, flatten}
 use lib.IntN.{ℤ, pos, negsuc, nat_abs}
 use lib.ListN.{length, take, get_or, replicate}
-use Rattle.g722.specs.declared.Encoder.{Encoder}
-use Rattle.g722.specs.declared.Decoder.{Decoder}
 use Rattle.runs.specs.Rates.{decode_room}
-use Rattle.g722.specs.Session.{decoder_moves, begin_number, start_begun}
-use Rattle.g722.specs.Encoding.{encoder_begun}
-use Rattle.g722.specs.Decoding.{decoder_begun, decoded_samples}
+use Rattle.g722.specs.Session.{Encoder, Decoder, begun as session_begun, decoder_moves, begin_number, start_begun}
+use Rattle.g722.specs.Decoding.{decoded_samples}
 use Rattle.life.specs.Kind.{Kind, Reply}
 use Rattle.life.specs.Life.{fresh}
 use Rattle.life.specs.Unbroken.{Histories}
@@ -54,7 +51,7 @@ decoding_by code code_out = changed decoding code code_out decoding.restore
 
 pub no_deaf_decoder : (restore : Decoder → List ℕ → Reply Decoder) (back : Decoder → Decoder)
     → ((s : Decoder) (text : List ℕ) → (restore s text).session ≡ back s) → Histories (restoring_by decoding restore) → ⊥
-unfolding decoder_begun begin_number start_begun
+unfolding session_begun begin_number start_begun
 no_deaf_decoder restore back deaf hs =
     let k = restoring_by decoding restore in
     let same : fresh k 16000 0 ≡ fresh k 16000 1 = deaf_restore k hs back deaf 16000 0 16000 1 (omega arith, refl) (omega arith, refl) in
@@ -63,7 +60,7 @@ no_deaf_decoder restore back deaf hs =
 
 pub no_deaf_encoder : (restore : Encoder → List ℕ → Reply Encoder) (back : Encoder → Encoder)
     → ((s : Encoder) (text : List ℕ) → (restore s text).session ≡ back s) → Histories (restoring_by encoding restore) → ⊥
-unfolding encoder_begun begin_number start_begun
+unfolding session_begun begin_number start_begun
 no_deaf_encoder restore back deaf hs =
     let k = restoring_by encoding restore in
     let same : fresh k 16000 0 ≡ fresh k 16000 1 = deaf_restore k hs back deaf 16000 0 16000 1 (omega arith, refl) (omega arith, refl) in
@@ -89,7 +86,7 @@ module _ (code : Decoder → List ℕ → ℕ → Reply Decoder) (code_out : Dec
   -- of A0 04 from the zero start it writes what the run gives out, 0 0 -1 0
   only_the_run : (samples : Decoder → List ℕ → List ℤ) → Writes samples → Histories (decoding_by code code_out)
       → samples begun (160 ∷ 4 ∷ []) ≡ pos 0 ∷ pos 0 ∷ negsuc 0 ∷ pos 0 ∷ []
-  unfolding decoder_begun begin_number decode_room decoder_moves
+  unfolding session_begun begin_number decode_room decoder_moves
   only_the_run samples w hs =
       let out = replicate 4 (pos 0) in
       let c = first_call (decoding_by code code_out) hs 16000 0 (omega arith, refl) (160 ∷ 4 ∷ []) out tt refl in

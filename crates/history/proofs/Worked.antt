@@ -5,10 +5,8 @@ use mathlib.Core.Path.{◌≡◌, refl, sym, ap, ◌∙◌}
 use mathlib.Core.List.{List, [], ◌∷◌, ◌++◌}
 use lib.IntN.{ℤ, pos, negsuc}
 use lib.ListN.{drop, replicate}
-use Rattle.g722.specs.declared.Decoder.{Decoder}
 use Rattle.runs.specs.Rates.{decode_room}
-use Rattle.g722.specs.Session.{decoder_moves, begin_number}
-use Rattle.g722.specs.Decoding.{decoder_begun}
+use Rattle.g722.specs.Session.{Decoder, begun as session_begun, decoder_moves, begin_number}
 use Rattle.life.specs.Life.{fresh, given_by, mark_by, coded, code_refused, wrote, Life, begun, begin_refused, called, restored}
 use Rattle.history.specs.Decoding.{decoding}
 use Rattle.history.proofs.Histories.{decoders}
@@ -25,7 +23,7 @@ abbrev first : Decoder
 first = fresh decoding 16000 0
 
 first_lives : Life decoding first 16000 0 []
-unfolding decoder_begun begin_number
+unfolding session_begun begin_number
 first_lives = begun 16000 0 (omega arith) refl
 
 -- A0 is taken, into room for two samples
@@ -56,7 +54,7 @@ abbrev fourth : Decoder
 fourth = (decoding.restore (fresh decoding 8000 7) (mark_by decoding third bytes)).session
 
 fourth_lives : Life decoding fourth 16000 0 (160 ∷ [])
-unfolding decoder_begun begin_number
+unfolding session_begun begin_number
 fourth_lives =
     restored (begin_refused 8000 7 (omega arith) refused) third_lives bytes ((decoders.unbroken third_lives).writes 512 (omega arith))
   where

@@ -1,2 +1,2 @@
-// No code. What a session's life and history are, and what is proved of them, said once for both kinds of session.
+// No code: what a session's life and history are, and what is proved of them, said once for both kinds of session.
 #![tactic(auto)]

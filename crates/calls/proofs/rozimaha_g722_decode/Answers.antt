@@ -1,33 +1,42 @@
-use Rattle.std.proofs.Common.{◌≤◌, rules}
-use Rattle.mark.specs.Answer.{rate_most}
-use Rattle.calls.proofs.Coded.{DecodeCall, decode_refused, decode_done}
+use Rattle.std.proofs.Common.{ap, ◌∙◌, ◌/◌, length, rules}
+use Rattle.answers.specs.Outcomes.{number_of}
+use Rattle.calls.specs.G722.{decode_call_number, decode_call_out, decode_call_mark}
+use Rattle.calls.proofs.Numbers.{not_done, decode_coded}
+use Rattle.calls.proofs.Coded.{Call, call_refused, call_done, decoder, decodes}
 use Rattle.calls.proofs.rozimaha_g722_decode.Goals as goal
-
-pub returns-then-number-ne-DONE : goal.returns-then-number-ne-DONE
-returns-then-number-ne-DONE c =
-    let a = c.args in
-    let call : DecodeCall a.mark.now a.input.now a.out.now a.next.now c.decoder_of-restored.result c.call_number-number.result =
-    record {
-      restored = c.decoder_of-restored.ensures;
-      coded = c.decode_number-decoders.result;
-      coded_is = c.decode_number-decoders.ensures;
-      number_is = c.call_number-number.ensures;
-    } in
-    let d = decode_refused call c.if-number-ne-DONE.true in
-    record { value = d.0; out_after = d.1.0; next_after = d.1.1 }
+use Rattle.calls.proofs.rozimaha_g722_decode.Goals.{in-Ok, in_default}
 
 pub returns : goal.returns
+unfolding decode_call_number decode_call_out decode_call_mark
 returns c =
     let a = c.args in
-    let call : DecodeCall a.mark.now a.input.now a.out.now a.next.now c.decoder_of-restored.result c.call_number-number.result =
-    record {
-      restored = c.decoder_of-restored.ensures;
-      coded = c.decode_number-decoders.result;
-      coded_is = c.decode_number-decoders.ensures;
-      number_is = c.call_number-number.ensures;
+    let input = a.input.now in
+    let out = a.out.now in
+    let r = c.restore-restored.result in
+    let d = decoder input out in
+    let call : Call d a.mark.now a.next.now r (number_of c.call_outcome.result) = record {
+      restores = c.restore-restored.ensures;
+      coded = number_of c.decode_outcome-decoded.result;
+      coded_is = ap number_of c.decode_outcome-decoded.ensures ∙ decode_coded r.session (length input) (length out / 2) _;
+      number_is = c.call_outcome.ensures;
     } in
-    let rate_fits : c.decoder_of-restored.result.session.rate ≤ rate_most = search rules in
-    let e = c.decode_to_bytes.ensures in
-    let w = c.write_decoder.ensures in
-    let d = decode_done call c.if-number-ne-DONE.false rate_fits e.answer e.written w.answer w.written in
-    record { value = d.0; out_after = d.1.0; next_after = d.1.1 }
+    elim c.match-call_outcome.branch [
+      | in-Ok w ↦ (
+          let e = w.decode_to_bytes in
+          let codes = decodes input out r.session (search rules) e.ensures.answer e.ensures.written in
+          let l = call_done d a.mark.now a.next.now call (ap number_of w.in-Ok.is) e.result w.write.result codes w.write.ensures.answer w.write.ensures.written in
+          record {
+            value = c.number.ensures ∙ ap number_of w.outcome-is ∙ l.value;
+            out_after = w.out-is ∙ l.output;
+            next_after = w.next-is ∙ l.mark_after;
+          }
+          )
+      | in_default w ↦ (
+          let l = call_refused d a.mark.now a.next.now call out (not_done c.call_outcome.result w.in_default.not-Ok) in
+          record {
+            value = c.number.ensures ∙ ap number_of w.outcome-is ∙ l.value;
+            out_after = w.out-is ∙ l.output;
+            next_after = w.next-is ∙ l.mark_after;
+          }
+          )
+    ]
