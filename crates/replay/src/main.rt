@@ -6,41 +6,29 @@ mod case;
 mod list;
 mod words;
 
-use case::Tally;
+use case::Replay;
 use std::rt::Files;
 use std::{env, fs, io};
 
 // A list that cannot be opened is told of, and the others are run.
-fn run_file(rt: &(impl Files + Eprint), path: &str, before: Tally) -> io::Result<Tally> {
+fn run_file(rt: &(impl Files + Eprint), path: &str, replay: &mut Replay) -> io::Result<()> {
     match fs::open(rt, path) {
-        Ok(mut file) => {
-            let mut text = [0u8; 65536];
-            let mut mark = [0u8; 512];
-            list::run(&mut file, &mut text, &mut mark, before)
-        }
-        Err(e) => {
-            eprintln!(rt; "{path}: {e}")?;
-            Ok(before)
-        }
+        Ok(mut file) => list::run(&mut file, replay),
+        Err(e) => eprintln!(rt; "{path}: {e}"),
     }
 }
 
 fn main(rt: HostRuntime) -> io::Result<()> {
-    let mut tally = Tally {
-        cases: 0,
-        wrong: 0,
-        digest: 0,
-        held: 0,
-    };
+    let mut replay = Replay::new();
     for path in env::args(&rt)?.skip(1) {
-        tally = run_file(&rt, path.as_str(), tally)?;
+        run_file(&rt, path.as_str(), &mut replay)?;
     }
-    let Tally {
+    let Replay {
         cases,
         wrong,
         digest,
-        held: _,
-    } = tally;
+        ..
+    } = replay;
     println!(rt; "cases\t{cases}")?;
     println!(rt; "wrong\t{wrong}")?;
     println!(rt; "digest\t{digest}")

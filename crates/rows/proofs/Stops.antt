@@ -5,13 +5,13 @@ use Prim.Native.Nat.{ℕ, ◌+◌, ◌*◌, ◌≤◌}
 use native.Mathlib.Omega.{arith}
 use lib.ListN.{length}
 use Rattle.answers.specs.Numbers.{done}
-use Rattle.g722.specs.declared.Decoder.{Decoder}
 use Rattle.runs.specs.Rates.{decode_room}
-use Rattle.g722.specs.Session.{decoder_moves}
+use Rattle.g722.specs.declared.Decoding.{Decoding}
+use Rattle.g722.specs.Session.{Decoder, decoder_moves, begun}
 use Rattle.runs.specs.Runs.{filters_after_bytes}
-use Rattle.g722.specs.Decoding.{decoder_begun, decoder_after, decode_number}
+use Rattle.g722.specs.Decoding.{decoder_after, decode_number}
 use Rattle.g722.proofs.Numbers.{decode_taken, taken_decodes}
-use Rattle.g722.proofs.Sound.{decoder_begun_in, decoder_after_in}
+use Rattle.g722.proofs.Sound.{begun_in, decoder_after_in}
 use Rattle.rows.specs.Listing.{list_number, fitting_bytes, Ready, zero_start}
 
 -- at 16000 each byte moves the position by two
@@ -56,5 +56,5 @@ module _ (s : Decoder) where
   fitting_most n k room e h d = omega (arith, moves s k e, (decode_taken s k room d).not_past)
 
 pub ready_begun : Ready zero_start 0
-unfolding decoder_begun
-ready_begun = record { rate = refl; inside = decoder_begun_in 16000 0; fits = omega arith }
+unfolding begun
+ready_begun = record { rate = refl; inside = begun_in Decoding 16000 0; fits = omega arith }

@@ -7,10 +7,9 @@ use lib.IntN.{pos, negsuc}
 use lib.ListN.{length}
 use Rattle.text.specs.Number.{decimal, digits, digits_in}
 use Rattle.text.specs.Fields.{parted}
-use Rattle.g722.specs.declared.Decoder.{Decoder}
-use Rattle.g722.specs.Session.{decoder_moves}
+use Rattle.g722.specs.Session.{Decoder, decoder_moves, begun}
 use Rattle.runs.specs.Runs.{kept_at, pairs_of_bytes}
-use Rattle.g722.specs.Decoding.{decoder_begun, decoder_after, decoded_samples}
+use Rattle.g722.specs.Decoding.{decoder_after, decoded_samples}
 use Rattle.g722.proofs.Cut.{decoded_cut, decoded_length}
 use Rattle.rows.specs.Text.{header_text, row_text, rows_text, end_text, listing_text}
 use Rattle.rows.specs.Listing.{rows_of, rows_of_pieces, zero_start, listing}
@@ -44,7 +43,7 @@ listed ps =
 
 -- at 16000 the samples so far are the position, which the program counts its indices by
 pub position_counts : (bs : List ℕ) → length (decoded_samples zero_start bs) ≡ (decoder_after zero_start bs).position
-unfolding decoder_after decoder_moves decoder_begun
+unfolding decoder_after decoder_moves begun
 position_counts bs = omega (arith, decoded_length zero_start bs)
 
 -- ---- an example

@@ -2,10 +2,9 @@
 -- (docs/RULES.md, "Listing").
 use Rattle.std.specs.Prelude.{◌≡◌, true, List, [], ◌∷◌, ◌++◌, ℕ, ◌+◌, ◌-◌, ◌*◌, ◌/◌, ◌≤◌, min, length}
 use Rattle.answers.specs.Lent.{leaves}
-use Rattle.g722.specs.declared.Decoder.{Decoder}
-use Rattle.g722.specs.declared.DecoderAnswer.{DecoderAnswer}
-use Rattle.g722.specs.Session.{position_most}
-use Rattle.g722.specs.Decoding.{decoder_answered, decoder_begun, decoder_in_bounds, decoder_after, decoded_samples, decode_number}
+use Rattle.answers.specs.declared.Answer.{Answer}
+use Rattle.g722.specs.Session.{Decoder, answered, position_most, begun, in_bounds}
+use Rattle.g722.specs.Decoding.{decoder_after, decoded_samples, decode_number}
 use Rattle.rows.specs.Text.{rows_text, listing_text, row_most}
 
 -- how many rows one call can write into so many bytes
@@ -25,8 +24,8 @@ rows_of_pieces first s (p ∷ ps) = rows_of first s p ++ rows_of_pieces (first +
 abbrev pub list_number : Decoder → ℕ → ℕ → ℕ
 list_number s n room = decode_number s n (rows_for room)
 
-unfoldable pub list_answer : ℕ → Decoder → List ℕ → ℕ → DecoderAnswer
-list_answer first s bs room = decoder_answered (list_number s (length bs) room) (length (rows_of first s bs)) (decoder_after s bs) s
+unfoldable pub list_answer : ℕ → Decoder → List ℕ → ℕ → Answer Decoder
+list_answer first s bs room = answered (list_number s (length bs) room) (length (rows_of first s bs)) (decoder_after s bs) s
 
 unfoldable pub list_out : ℕ → Decoder → List ℕ → List ℕ → List ℕ
 list_out first s bs out = leaves (list_number s (length bs) (length out)) (rows_of first s bs) out
@@ -38,12 +37,12 @@ fitting_bytes position count = min count ((position_most - position) / 2)
 -- a session at 16000 that can take so many bytes more
 pub record Ready (s : Decoder) (n : ℕ) : Type 0 where
   pub rate : s.rate ≡ 16000
-  pub inside : decoder_in_bounds s ≡ true
+  pub inside : in_bounds s ≡ true
   pub fits : s.position + 2 * n ≤ position_most
 
 -- a whole recording, decoded from the zero start at 16000
 abbrev pub zero_start : Decoder
-zero_start = (decoder_begun 16000 0).session
+zero_start = (begun 16000 0).session
 
 abbrev pub listing : List ℕ → List ℕ
 listing bs = listing_text (decoded_samples zero_start bs)

@@ -1,12 +1,14 @@
 // The text of a listing: a header, a row with the index and the value of each sample, and the total.
 #![tactic(auto)]
 
-ghost use Rattle.std.specs.Prelude.{◌≡◌, ◌+◌, ◌*◌, ◌≤◌, ◌<◌, ◌^◌, min, length};
+ghost use Rattle.std.specs.Prelude.{◌≡◌, ◌+◌, ◌*◌, ◌≤◌, ◌<◌, ◌^◌, length};
 ghost use Rattle.std.proofs.lemmas.List.Edits.{sets};
+ghost use Rattle.answers.specs.Outcomes.{count_of};
 ghost use Rattle.rows.specs.Text.{header_text, row_text, rows_text, end_text, row_most};
 ghost use Rattle.rows.specs.Listing.{rows_for, list_answer, list_out, fitting_bytes};
 
-use g722::{Decoder, DecoderAnswer};
+use answers::Answer;
+use g722::Decoder;
 use text::number::write_number;
 use text::{NEWLINE, TAB};
 
@@ -48,25 +50,17 @@ fn write_rows(first: u64, samples: &[i16], out: &mut [u8]) -> usize
     ensures upper_bound { result ≤ length out.new }
 {
     let mut at = 0;
-    let mut i = 0;
-    while i < samples.len() {
-        at = write_row(out, at, first + i as u64, samples[i]);
-        i += 1;
+    for (i, sample) in samples.iter().enumerate() {
+        at = write_row(out, at, first + i as u64, *sample);
     }
     at
-}
-
-fn least(a: usize, b: usize) -> usize
-    ensures { result ≡ min a b }
-{
-    if a < b { a } else { b }
 }
 
 // How many rows one call can write into so many bytes.
 fn rows_for(room: usize) -> usize
     ensures { result ≡ rows_for room }
 {
-    least(SAMPLES_MOST, room / ROW_MOST)
+    SAMPLES_MOST.min(room / ROW_MOST)
 }
 
 // Room for the samples of one call. Its contract gives only the length, which lending it needs.
@@ -78,24 +72,21 @@ fn sample_room() -> [i16; SAMPLES_MOST]
 
 // Decodes the input and writes the rows of its samples, whose indices begin with `first` and have at most ten digits. Refuses as
 // `decode` does, where the room is counted in rows. The count is that of the bytes written.
-pub fn list(first: u64, input: &[u8], out: &mut [u8], session: Decoder) -> DecoderAnswer
+pub fn list(first: u64, input: &[u8], out: &mut [u8], session: Decoder) -> Answer<Decoder>
     requires { first + 2048 ≤ 10 ^ 10 }
     ensures answer { result ≡ list_answer first session input.now (length out.old) }
     ensures written { out.new ≡ list_out first session input.now out.old }
-    ensures within { result.count ≤ length out.new }
+    ensures within { count_of result.outcome ≤ length out.new }
 {
     let mut samples = sample_room();
     let room = rows_for(out.len());
     let answer = session.decode(input, &mut samples[..room]);
-    if answer.number != answers::DONE {
-        return answer;
-    }
-    let after = answer.session;
-    let n = answer.count;
-    DecoderAnswer {
-        number: answers::DONE,
-        count: write_rows(first, &samples[..n], out),
-        session: after,
+    match answer.outcome {
+        Ok(n) => Answer {
+            outcome: Ok(write_rows(first, &samples[..n], out)),
+            ..answer
+        },
+        Err(_) => answer,
     }
 }
 
@@ -103,7 +94,7 @@ pub fn list(first: u64, input: &[u8], out: &mut [u8], session: Decoder) -> Decod
 pub fn fitting(position: u32, count: usize) -> usize
     ensures { result ≡ fitting_bytes position count }
 {
-    least(count, ((Decoder::POSITION_MOST - position) / 2) as usize)
+    count.min(((Decoder::POSITION_MOST - position) / 2) as usize)
 }
 
 // Writes the last row, and answers how many bytes it takes.
@@ -113,10 +104,7 @@ pub fn write_end(total: u64, out: &mut [u8; END_MOST]) -> usize
     ensures written { out.new ≡ sets out.old 0 (end_text total) }
     ensures within { result ≤ length out.new }
 {
-    out[0] = b'e';
-    out[1] = b'n';
-    out[2] = b'd';
-    out[3] = TAB;
+    out[..4].copy_from_slice(b"end\t");
     let end = write_number(out, 4, total as i64);
     out[end] = NEWLINE;
     end + 1

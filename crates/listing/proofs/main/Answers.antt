@@ -2,5 +2,5 @@
 use Rattle.rows.proofs.Stops.{ready_begun}
 use Rattle.listing.proofs.main.Goals as goal
 
-pub list_all-requires-clause-ready : goal.list_all-requires-clause-ready
-list_all-requires-clause-ready c = rw c.begin.ensures ready_begun
+pub list_all-requires : goal.list_all-requires
+list_all-requires c = rw c.begin.ensures ready_begun

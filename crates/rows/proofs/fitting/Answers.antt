@@ -3,4 +3,4 @@ use Rattle.rows.proofs.fitting.Goals as goal
 
 pub returns : goal.returns
 unfolding fitting_bytes
-returns c = c.least.ensures
+returns c = c.min.ensures

@@ -1,5 +1,6 @@
-use Rattle.std.proofs.Common.{◌≡◌, ◌+◌, ◌<◌, pos, length, sym, set, arith}
+use Rattle.std.proofs.Common.{◌≡◌, ◌+◌, ◌<◌, ◌++◌, [], ◌∷◌, List, ℕ, pos, length, drop, sym, set, arith}
 use Rattle.std.proofs.Math.ListN.{length-set}
+use Rattle.std.proofs.Math.Seq.{sets-eq}
 use mir.Syntax.{w64}
 use mir.Facts.{to_z_pos}
 use Rattle.std.proofs.lemmas.List.Edits.{sets}
@@ -9,9 +10,14 @@ use Rattle.rows.proofs.Texts.{two_length, two_stored, index_length}
 use Rattle.rows.proofs.write_end.Goals as goal
 use Rattle.rows.proofs.write_end.Goals.{After-write_number-end}
 
+-- the word and its tab, and what stood behind them
+after_word : (out q : List ℕ) → length out ≡ 15 → q ≡ 101 ∷ 110 ∷ 100 ∷ 9 ∷ [] → q ++ drop 4 out ≡ set (sets out 0 end_word) 3 9
+after_word out q l e = rw e (sym (sets-eq (101 ∷ 110 ∷ 100 ∷ 9 ∷ []) out 0 (omega (arith, l))))
+
 pub write_number-end-requires : goal.write_number-end-requires
 write_number-end-requires c =
-    rw (to_z_pos w64 {n = c.args.total} (omega arith)) (simp length-set (omega (arith, index_length c.args.total c.requires)))
+    let word = after_word c.args.out.now _ c.told-out c.copy_from_slice.ensures.after in
+    rw (to_z_pos w64 {n = c.args.total} (omega arith), word) (simp length-set (omega (arith, c.told-out, index_length c.args.total c.requires)))
 
 -- after the total
 after_total : (c : After-write_number-end) →
@@ -19,7 +25,8 @@ after_total : (c : After-write_number-end) →
     × (c.write_number-end.new.out ≡ sets (set (sets c.args.out.now 0 end_word) 3 9) 4 (decimal (pos c.args.total)))
 after_total c =
     let e = to_z_pos w64 {n = c.args.total} (omega arith) in
-    (rw e at c.write_number-end.ensures.value, rw e at c.write_number-end.ensures.out_after)
+    let word = after_word c.args.out.now _ c.told-out c.copy_from_slice.ensures.after in
+    (rw e at c.write_number-end.ensures.value, rw (e, word) at c.write_number-end.ensures.out_after)
 
 newline_inside : (c : After-write_number-end) → c.write_number-end.result < 15
 newline_inside c = omega (arith, (after_total c).0, index_length c.args.total c.requires)
