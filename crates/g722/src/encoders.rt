@@ -63,6 +63,8 @@ impl Encoder {
     }
 
     // `encode` where the samples come as bytes: two functions, since one that takes the run would have to state what each run asks and leaves.
+    // Out of line, as the decoder's is.
+    #[inline(never)]
     #[tactic(auto, using(crate::proofs::Calls::encode_laws), unfolding(crate::specs::Encoding::encode_from_bytes_answer, crate::specs::Encoding::encode_from_bytes_out))]
     pub fn encode_from_bytes(self, input: &[u8], out: &mut [u8]) -> Answer<Encoder>
         ensures answer { result ≡ encode_from_bytes_answer self input.now (length out.old) }
