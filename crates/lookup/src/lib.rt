@@ -6,7 +6,7 @@ ghost use Rattle.answers.specs.Lent.{map_outcome, map_output};
 ghost use Rattle.samples.specs.Lent.{from_bytes_outcome, from_bytes_output, to_bytes_outcome, to_bytes_output};
 
 use answers::{Outcome, Refusal};
-use samples::{encoding_outcome, sample};
+use samples::{bits, encoding_outcome, sample};
 
 // A law: the byte of a sample, and the value of a byte.
 pub trait Law {
@@ -71,7 +71,7 @@ pub fn decode_to_bytes<L: Law>(payload: &[u8], out: &mut [u8]) -> Outcome
         return Err(Refusal::NoRoom);
     }
     for (i, b) in payload.iter().enumerate() {
-        let [lo, hi] = L::value(*b).to_le_bytes();
+        let [lo, hi] = bits(L::value(*b)).to_le_bytes();
         out[2 * i] = lo;
         out[2 * i + 1] = hi;
     }

@@ -71,7 +71,11 @@ pub(crate) fn numbers_of(rate: u32, position: u32, f: Filters) -> [i64; NUMBER_C
     let mut numbers = [0i64; NUMBER_COUNT];
     numbers[0] = i64::from(rate);
     numbers[1] = i64::from(position);
-    numbers[2..].copy_from_slice(&filters_numbers(f).map(i64::from));
+    let words = filters_numbers(f);
+    // By a loop: an array's `map` keeps an Option for each number on the way, and copies the array four times.
+    for (i, word) in words.iter().enumerate() {
+        numbers[2 + i] = i64::from(*word);
+    }
     numbers
 }
 

@@ -4,15 +4,16 @@
 mod flat;
 mod reading;
 
-ghost use Rattle.std.specs.Prelude.{◌≡◌, ℕ, length};
+ghost use Rattle.std.specs.Prelude.{◌≡◌, ◌≤◌, ◌^◌, ℕ, length, ltb};
 ghost use Rattle.answers.specs.Outcomes.{outcome};
 ghost use Rattle.line.specs.Letters.{letter_e, letter_d};
+ghost use Rattle.line.specs.Line.{line_text};
 ghost use Rattle.g722.specs.Session.{in_bounds};
 ghost use Rattle.mark.specs.Answer.{letter_of, write_number};
 ghost use Rattle.mark.specs.Marks.{session_line, write_answer, write_out, restore_answer};
 
 use answers::{Answer, Outcome, Refusal};
-use g722::{Decoding, Encoding, Session};
+use g722::{Decoding, Encoder, Encoding, Session};
 
 // A kind of session, by the letter that its lines have.
 pub trait Kind: Copy {
@@ -50,6 +51,16 @@ fn letter_of(start: u8) -> u8
     }
 }
 
+// Whether a line of the numbers, whatever its letters, is longer than the room. It is measured only where fewer bytes are lent than hold
+// every line: measuring took half as long as writing.
+fn overfills(numbers: &[i64], room: usize) -> bool
+    requires few { length numbers.now ≤ 2 ^ 32 }
+    requires short { (kind start : ℕ) → length (line_text kind start numbers.now) ≤ 512 }
+    ensures { (kind start : ℕ) → result ≡ ltb room (length (line_text kind start numbers.now)) }
+{
+    room < Encoder::MARK_LENGTH_MOST && room < line::line_length(numbers)
+}
+
 // Writes the session's line at the front of `out`.
 #[tactic(auto, unfolding(crate::specs::Answer::write_number, crate::specs::Marks::write_out))]
 fn write_line<K: Kind>(session: Session<K>, out: &mut [u8]) -> Outcome
@@ -60,11 +71,10 @@ fn write_line<K: Kind>(session: Session<K>, out: &mut [u8]) -> Outcome
         return Err(Refusal::OutOfBounds);
     }
     let numbers = flat::numbers_of(session.rate, session.position, session.filters);
-    let count = line::line_length(&numbers);
-    if out.len() < count {
+    if overfills(&numbers, out.len()) {
         return Err(Refusal::NoRoom);
     }
-    line::write_line(out, K::letter(), letter_of(session.start), &numbers);
+    let count = line::write_line(out, K::letter(), letter_of(session.start), &numbers);
     Ok(count)
 }
 

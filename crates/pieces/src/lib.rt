@@ -10,7 +10,7 @@ ghost use Rattle.runs.specs.Runs.{pairs_at, kept_at, filters_after_pairs, bytes_
 
 use band::Filters;
 use runs::rates;
-use samples::sample;
+use samples::{bits, sample};
 
 // How many samples a piece has: an even number, so that it ends with a pair.
 const PIECE: usize = 2048;
@@ -31,7 +31,7 @@ fn pack(input: &[i16], out: &mut [u8])
     ensures { out.new ≡ sets out.old 0 (bytes input.now) }
 {
     for (i, s) in input.iter().enumerate() {
-        let [lo, hi] = s.to_le_bytes();
+        let [lo, hi] = bits(*s).to_le_bytes();
         out[2 * i] = lo;
         out[2 * i + 1] = hi;
     }

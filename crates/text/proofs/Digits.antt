@@ -3,7 +3,7 @@
 use mathlib.Core.Path.{◌≡◌, refl, sym, ap, ◌∙◌}
 use mathlib.Core.Bool.{false}
 use mathlib.Core.List.{List, [], ◌∷◌, ◌++◌, append_assoc}
-use Prim.Native.Nat.{ℕ, zero, suc, ◌+◌, ◌/◌, ◌%◌, ◌^◌, ◌≤◌, ◌<◌}
+use Prim.Native.Nat.{ℕ, zero, suc, ◌+◌, ◌*◌, ◌/◌, ◌%◌, ◌^◌, ◌≤◌, ◌<◌}
 use native.Mathlib.Nat.{pow-suc}
 use native.Mathlib.Omega.{arith}
 use lib.ListN.{length, length-append}
@@ -85,6 +85,18 @@ below_pow (suc k) n h = let r = below_pow k (n / 10) (go (below n 10)) in omega 
     go : Below n 10 → length (digits (n / 10)) ≤ suc k
     go (small s) = omega (arith, count_one (n / 10) (omega arith))
     go (large g) = omega (arith, count_more n g)
+
+-- k + 1 digits from 10 ^ k on
+pub count_is : (k n : ℕ) → 10 ^ k ≤ n → n < 10 * 10 ^ k → length (digits n) ≡ k + 1
+count_is k n low high = let most = count_le k n (omega (arith, high, pow-suc 10 k)) in omega (arith, most, least k low)
+  where
+    least : (k : ℕ) → 10 ^ k ≤ n → k + 1 ≤ length (digits n)
+    least zero p = count_some n
+    least (suc j) p = go (below (length (digits n)) (suc (suc j)))
+      where
+        go : Below (length (digits n)) (suc (suc j)) → suc j + 1 ≤ length (digits n)
+        go (small h) = absurd (omega (arith, p, below_pow j n (omega (arith, h))))
+        go (large h) = omega (arith, h)
 
 -- ---- what they begin with: with no minus, and with a zero only where the number is 0
 

@@ -1,8 +1,10 @@
 -- Where a sign meets a magnitude in 64 bits: a magnitude below 10 ^ 10 as a signed number, and a signed number's magnitude.
 use mathlib.Core.Path.{◌≡◌, refl, sym, ap, ◌∙◌}
+use mathlib.Core.Bool.{Bool, true, false}
 use Prim.Native.Nat.{ℕ, zero, suc, ◌+◌, ◌%◌, ◌^◌, ◌≤◌, ◌<◌}
 use native.Mathlib.Omega.{arith}
-use lib.IntN.{ℤ, pos, negsuc, ◌-ℤ◌}
+use lib.IntN.{ℤ, pos, negsuc, nat_abs, ◌-ℤ◌}
+use lib.Signed.{non_neg}
 use mir.Syntax.{w64}
 use mir.Val.{SFits, to_z, of_z}
 use mir.Facts.{to_z-of_z, to_z_pos}
@@ -16,6 +18,7 @@ use Rattle.std.specs.Fmt.{decimal as printed, signed_decimal}
 use Rattle.std.proofs.lemmas.Fmt.{decimal_digit, decimal_step}
 use Rattle.text.proofs.Digits.{digits_one, digits_last, by_digits, count_le}
 use Rattle.text.proofs.NumberTexts.{number, digits_bounds, decimal_read}
+use Rattle.text.proofs.Tests.{false_is_true}
 
 pub short_fits : (v : ℤ) → Short v → SFits w64 v
 short_fits (pos n) h = record { sfits = omega arith }
@@ -45,7 +48,7 @@ negated_is l m e z = go m.value m.count z (digits_bounds l m e).0 ∙ ap negated
 
 -- ---- the text is what std prints
 
-digits_is : (n : ℕ) → n < 2 ^ 64 → digits n ≡ printed n
+pub digits_is : (n : ℕ) → n < 2 ^ 64 → digits n ≡ printed n
 digits_is =
     by_digits (λ n. n < 2 ^ 64 → digits n ≡ printed n)
     (λ n h f. digits_one n h ∙ sym (decimal_digit n h))
@@ -55,6 +58,18 @@ pub decimal_is : (v z : ℤ) → SFits w64 v → z ≡ v → signed_decimal z �
 unfolding decimal
 decimal_is (pos n) z f e = rw e (sym (digits_is n (omega (arith, f.sfits))))
 decimal_is (negsuc n) z f e = rw e (ap (λ (l : List ℕ). MINUS ∷ l) (sym (digits_is (suc n) (omega (arith, f.sfits)))))
+
+-- ---- the text by sign and magnitude: z is v as the machine hands it on, and n its magnitude
+
+pub text_plain : (v z : ℤ) (n : ℕ) → z ≡ v → non_neg z ≡ true → n ≡ nat_abs z → decimal v ≡ digits n
+unfolding decimal
+text_plain (pos m) z n i e a = rw (a, i)
+text_plain (negsuc m) z n i e a = false_is_true (rw i at e)
+
+pub text_minus : (v z : ℤ) (n : ℕ) → z ≡ v → non_neg z ≡ false → n ≡ nat_abs z → decimal v ≡ MINUS ∷ digits n
+unfolding decimal
+text_minus (pos m) z n i e a = let f : ◌≡◌ {A = Bool} true false = rw i at e in false_is_true (cc)
+text_minus (negsuc m) z n i e a = rw (a, i)
 
 -- at most twenty bytes
 pub decimal_le : (v : ℤ) → SFits w64 v → length (decimal v) ≤ 20

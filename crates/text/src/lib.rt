@@ -14,6 +14,8 @@ pub const MINUS: u8 = b'-';
 
 pub const ZERO: u8 = b'0';
 
+pub const NINE: u8 = b'9';
+
 // What stands in `s` from `at` on: nothing, where `at` is beyond the end.
 pub fn rest(s: &[u8], at: usize) -> &[u8]
     ensures { result.now ≡ drop at s.now }

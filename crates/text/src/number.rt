@@ -3,10 +3,9 @@
 ghost use Rattle.std.specs.Prelude.{◌≡◌, ◌+◌, ◌≤◌, length, drop};
 ghost use Rattle.std.proofs.lemmas.List.Edits.{sets};
 ghost use Rattle.std.specs.Int.Signed.{non_neg};
-ghost use Rattle.text.specs.Number.{decimal, begins, run, value, magnitude, plain, negated, read_number};
+ghost use Rattle.text.specs.Number.{digits, decimal, begins, run, value, magnitude, plain, negated, read_number};
 
 use crate::{MINUS, ZERO, rest};
-use itoa::Buffer;
 
 // What was read, and how many bytes its text takes.
 #[derive(Clone, Copy)]
@@ -101,11 +100,35 @@ pub fn is_plain(v: i64) -> bool
     0 <= v
 }
 
+// How many digits `n` has.
+fn count_of(n: u64) -> usize
+    ensures { result ≡ length (digits n) }
+{
+    if n < 10 {
+        return 1;
+    }
+    n.ilog10() as usize + 1
+}
+
+// Writes the digits of `n` at `at`, and returns the place after them. They are written where they belong: through a buffer of its
+// own, and a copy, a mark of short numbers took three times as long.
+#[inline(always)]
+fn write_digits(out: &mut [u8], at: usize, n: u64) -> usize
+    requires { at + length (digits n) ≤ length out.old }
+    ensures value { result ≡ at + length (digits n) }
+    ensures out_after { out.new ≡ sets out.old at (digits n) }
+{
+    let end = at + count_of(n);
+    itoa::write_digits(n, out, end);
+    end
+}
+
 // How many bytes the text of `v` takes.
 pub fn number_length(v: i64) -> usize
     ensures { result ≡ length (decimal v) }
 {
-    Buffer::new().format(v).len()
+    let count = count_of(v.unsigned_abs());
+    if is_plain(v) { count } else { count + 1 }
 }
 
 // Writes the text of `v` at `at`, and returns the place after it, which callers go on from.
@@ -114,9 +137,10 @@ pub fn write_number(out: &mut [u8], at: usize, v: i64) -> usize
     ensures value { result ≡ at + length (decimal v) }
     ensures out_after { out.new ≡ sets out.old at (decimal v) }
 {
-    let mut buffer = Buffer::new();
-    let text = buffer.format(v).as_bytes();
-    let end = at + text.len();
-    out[at..end].copy_from_slice(text);
-    end
+    let n = v.unsigned_abs();
+    if is_plain(v) {
+        return write_digits(out, at, n);
+    }
+    out[at] = MINUS;
+    write_digits(out, at + 1, n)
 }

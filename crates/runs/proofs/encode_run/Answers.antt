@@ -1,8 +1,9 @@
 -- A byte a turn.
-use Rattle.std.proofs.Common.{rules, ◌-◌, ◌∙◌, List, ℤ, pos, get_or}
+use Rattle.std.proofs.Common.{rules, ◌≡◌, ap₂, ◌-◌, ◌∙◌, List, ℤ, pos, get_or}
 use mir.Syntax.{w16}
 use mir.Val.{SFits}
 use mir.Facts.{to_z-of_z}
+use Rattle.step.specs.Step.{encode_step}
 use Rattle.runs.proofs.Loops.{encodes_none, encodes_more, encodes_all}
 use Rattle.runs.proofs.encode_run.Goals as goal
 
@@ -30,7 +31,8 @@ loop-i-preserved c =
     let pair : List ℤ = c.in-Some.pair.now in
     let first : SFits w16 (get_or pair 0 (pos 0)) = search rules in
     let second : SFits w16 (get_or pair (c.samples_a_byte-n.result - 1) (pos 0)) = search rules in
-    let coded = rw (to_z-of_z first, to_z-of_z second) at c.encode_step-coded.ensures in
+    let coded : c.encode_step-coded.result ≡ encode_step c.loop-i.g (get_or pair 0 (pos 0)) (get_or pair (c.samples_a_byte-n.result - 1) (pos 0)) =
+    c.encode_step-coded.ensures ∙ ap₂ (encode_step c.loop-i.g) (to_z-of_z first) (to_z-of_z second) in
     let more = encodes_more _ _ _ _ _ _ _ _ c.loop-i.invariant.encodes _ _ steps.0.1.0 (steps.0.1.1 ∙ size) in
     record {
       can_next = search rules;

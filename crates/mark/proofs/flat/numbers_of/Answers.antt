@@ -1,17 +1,35 @@
-use Rattle.std.proofs.Common.{◌≡◌, ◌∷◌, ◌<◌, pos, get_or, length, ◌∙◌, arith, rules, ℕ, w64, to_z, of_z}
-use mathlib.Core.List.{append-nil}
-use Rattle.std.proofs.lemmas.List.{ext_get_or}
+use Rattle.std.proofs.Common.{rules, ◌≡◌, ◌∷◌, ◌++◌, [], pos, refl, sym, ap, ◌∙◌, ◌+◌, ℕ, take, get_or, arith, w64, to_z, of_z}
+use lib.ListN.{length-set, set}
+use Rattle.std.proofs.lemmas.List.{take_more, take_more_set, take_all}
 use Rattle.mark.proofs.flat.numbers_of.Goals as goal
+
+pub loop-i-init : goal.loop-i-init
+loop-i-init c =
+    let rate : to_z w64 (of_z w64 c.from.result) ≡ pos c.args.rate = search rules in
+    let position : to_z w64 (of_z w64 c.from-2.result) ≡ pos c.args.position = search rules in
+    record { long = refl; same = λ j. rate j ∷ position j ∷ [] }
+
+pub loop-i-preserved : goal.loop-i-preserved
+loop-i-preserved c =
+    let i = c.loop-i.i in
+    let words = c.filters_numbers-words.result in
+    let numbers = c.loop-i.numbers in
+    let rate = pos c.args.rate in
+    let position = pos c.args.position in
+    let stored : to_z w64 (of_z w64 c.from-in-loop-i.result) ≡ get_or words i (pos 0) = search rules in
+    record {
+      long = length-set numbers (2 + i) _ ∙ c.loop-i.invariant.long;
+      same = ap (λ (n : ℕ). take n (set numbers (2 + i) (to_z w64 (of_z w64 c.from-in-loop-i.result)))) (omega arith)
+          ∙ take_more_set numbers (2 + i) _ (omega (arith, c.loop-i.invariant.long, c.loop-i-test.true))
+          ∙ (λ j. c.loop-i.invariant.same j ++ stored j ∷ [])
+          ∙ sym (λ j. rate ∷ position ∷ take_more words i (pos 0) (omega (arith, c.loop-i-test.true)) j);
+    }
 
 pub returns : goal.returns
 returns c =
-    let words = c.filters_numbers.result in
-    let map = c.map.ensures.items in
-    let long : length c.map.result ≡ length words = search (map.long, rules) in
-    let each : (i : ℕ) → i < length c.map.result → get_or c.map.result i (pos 0) ≡ get_or words i (pos 0) = λ i h.
-    let is = (map.at i (pos 0) (pos 0) (omega (arith, h, map.long))).2.met in
-    search (is, rules) in
-    let same = append-nil _ ∙ c.copy_from_slice.ensures.after ∙ ext_get_or (pos 0) c.map.result words long each ∙ c.filters_numbers.ensures in
-    let rate : to_z w64 (of_z w64 c.from.result) ≡ pos c.args.rate = search rules in
-    let position : to_z w64 (of_z w64 c.from-2.result) ≡ pos c.args.position = search rules in
-    λ j. rate j ∷ position j ∷ same j
+    let i = c.loop-i.i in
+    let rate = pos c.args.rate in
+    let position = pos c.args.position in
+    sym (take_all (2 + i) c.loop-i.numbers (omega (arith, c.loop-i.invariant.long, c.loop-i-test.false)))
+    ∙ c.loop-i.invariant.same
+    ∙ (λ j. rate ∷ position ∷ (take_all i c.filters_numbers-words.result (omega (arith, c.loop-i-test.false)) ∙ c.filters_numbers-words.ensures) j)
