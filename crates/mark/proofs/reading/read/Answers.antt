@@ -29,7 +29,8 @@ returns-then-found-text g c =
 pub returns-then-found-letter : goal.returns-then-found-letter
 returns-then-found-letter g c =
     let f = found g (goal.at.returns-then-found-letter g c).In_ok-found in
-    of_other_kind g.K.Kind.letter c.args.text.now _ f c.if-found-text.false (λ e. c.if-found-letter.true (e ∙ sym c.letter.ensures))
+    let other : c.in_ok-found.found.kind ≡ c.letter.result → ⊥ = c.if-found-letter.true in
+    of_other_kind g.K.Kind.letter c.args.text.now _ f c.if-found-text.false (λ e. other (e ∙ sym c.letter.ensures))
 
 pub said_by-requires : goal.said_by-requires
 said_by-requires g c =
