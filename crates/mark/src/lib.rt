@@ -52,7 +52,7 @@ fn letter_of(start: u8) -> u8
 }
 
 // Whether a line of the numbers, whatever its letters, is longer than the room. It is measured only where fewer bytes are lent than hold
-// every line: measuring took half as long as writing.
+// every line: measuring was a third of the instructions of a fresh mark.
 fn overfills(numbers: &[i64], room: usize) -> bool
     requires few { length numbers.now ≤ 2 ^ 32 }
     requires short { (kind start : ℕ) → length (line_text kind start numbers.now) ≤ 512 }
